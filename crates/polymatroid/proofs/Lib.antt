@@ -1,0 +1,10 @@
+pub mod Codes
+pub mod Finite
+pub mod Side
+pub mod Unions
+pub mod Build
+pub mod Tables
+pub mod Layers
+pub mod Grades
+pub mod Groups
+pub mod More

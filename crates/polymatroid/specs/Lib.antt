@@ -1,0 +1,7 @@
+pub mod Sets
+pub mod Finite
+pub mod Side
+pub mod Laws
+pub mod Tables
+pub mod Kinds
+pub mod More

@@ -3,7 +3,6 @@
 // theorem that the checks accept exactly the files that encode records which keep the rules.
 ghost use mathlib.Core.Path.{_≡_};
 ghost use Rattle.plantformat.specs.Faults.{told, law-number};
-ghost use Rattle.plantformat.specs.Promise.{Accepted-files-encode, Encodings-are-accepted, Accepted-plants-are-lawful};
 ghost use Rattle.plantformat.specs.declared.FloorFault.the-variants.{Record, Limit};
 ghost use Rattle.plantformat.specs.declared.RecordFault.the-variants.{Framing};
 use plant::Layer;
@@ -18,7 +17,7 @@ pub const TOP_LANE: u32 = 100_000;
 pub const MOST_GROUPS: usize = 16;
 
 // The kinds of record that a plant file may hold.
-#[derive(Clone, Copy, Debug, PartialEq, Eq)]
+#[derive(Clone, Copy)]
 pub enum Kind {
     Head,
     Lane,
@@ -28,7 +27,7 @@ pub enum Kind {
 }
 
 // How many stations there are, and which of them are the stock and the despatch.
-#[derive(Clone, Copy, Debug, PartialEq, Eq)]
+#[derive(Clone, Copy)]
 pub struct Head {
     pub stations: usize,
     pub stock: usize,
@@ -36,7 +35,7 @@ pub struct Head {
 }
 
 // A lane: the station that it leaves, the one that it enters, and its own cap.
-#[derive(Clone, Copy, Debug, PartialEq, Eq)]
+#[derive(Clone, Copy)]
 pub struct Lane {
     pub from: usize,
     pub to: usize,
@@ -44,7 +43,7 @@ pub struct Lane {
 }
 
 // A law of the caps that a table or a list of grades can break.
-#[derive(Clone, Copy, Debug, PartialEq, Eq)]
+#[derive(Clone, Copy)]
 pub enum Law {
     // The empty set has cap 0.
     Empty,
@@ -68,14 +67,14 @@ impl Law {
 }
 
 // A fault in how a file is cut into records. Every fault has the place of its record, its first byte.
-#[derive(Clone, Copy, Debug, PartialEq, Eq)]
+#[derive(Clone, Copy)]
 pub enum FramingFault {
     Length { at: usize },
     Kind { at: usize },
 }
 
 // A fault in one record, or below it.
-#[derive(Clone, Copy, Debug, PartialEq, Eq)]
+#[derive(Clone, Copy)]
 pub enum RecordFault {
     Framing(FramingFault),
     Order { at: usize },
@@ -84,13 +83,13 @@ pub enum RecordFault {
 }
 
 // A fault in the caps that a limit gives.
-#[derive(Clone, Copy, Debug, PartialEq, Eq)]
+#[derive(Clone, Copy)]
 pub enum LimitFault {
     Breaks { at: usize, law: Law },
 }
 
 // A fault in the floor that the records make, or below it.
-#[derive(Clone, Copy, Debug, PartialEq, Eq)]
+#[derive(Clone, Copy)]
 pub enum FloorFault {
     Record(RecordFault),
     Limit(LimitFault),
@@ -147,20 +146,3 @@ pub fn tell(fault: FloorFault) -> Refusal
     }
 }
 
-// A file that is accepted encodes the records that it was read as, and these keep the rules.
-pub fn accepted_files_encode()
-    ensures { λ _. ⌜ Accepted-files-encode ⌝ }
-{
-}
-
-// A file that encodes records which keep the rules is accepted, and is read as just these records.
-pub fn encodings_are_accepted()
-    ensures { λ _. ⌜ Encodings-are-accepted ⌝ }
-{
-}
-
-// Records that keep the rules define a floor and caps that keep the floor's rules and the four laws.
-pub fn accepted_plants_are_lawful()
-    ensures { λ _. ⌜ Accepted-plants-are-lawful ⌝ }
-{
-}

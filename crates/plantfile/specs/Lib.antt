@@ -1,3 +1,5 @@
 pub mod Frames
 pub mod Parts
 pub mod Told
+pub mod Content
+pub mod Promise

@@ -3,6 +3,7 @@
 // theorem that the checks accept exactly the files that encode records which keep the rules.
 ghost use mathlib.Core.Path.{_≡_};
 ghost use Rattle.plantformat.specs.Faults.{told, law-number};
+ghost use Rattle.plantformat.specs.Promise.{Accepted-plants-are-lawful};
 ghost use Rattle.plantformat.specs.declared.FloorFault.the-variants.{Record, Limit};
 ghost use Rattle.plantformat.specs.declared.RecordFault.the-variants.{Framing};
 use plant::Layer;
@@ -146,3 +147,8 @@ pub fn tell(fault: FloorFault) -> Refusal
     }
 }
 
+// Records that keep the rules define a floor and caps that keep the floor's rules and the four laws.
+pub fn accepted_plants_are_lawful()
+    ensures { λ _. ⌜ Accepted-plants-are-lawful ⌝ }
+{
+}

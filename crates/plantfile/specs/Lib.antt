@@ -2,4 +2,5 @@ pub mod Frames
 pub mod Parts
 pub mod Told
 pub mod Content
+pub mod Answers
 pub mod Promise

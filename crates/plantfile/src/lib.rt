@@ -1,5 +1,5 @@
 mod file_plant;
 mod framing;
 mod limits;
-mod reading;
+mod questions;
 mod records;

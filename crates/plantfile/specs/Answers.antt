@@ -2,7 +2,7 @@
 use mathlib.Core.Path.{_≡_}
 use mathlib.Core.List.{List}
 use Prim.Native.Nat.{ℕ, _≤_, _<_}
-use lib.ListN.{getD}
+use lib.ListN.{length, getD}
 use Rattle.std.specs.declared.option.Option.{Option}
 use Rattle.std.specs.declared.option.Option.the-variants.{Some, None}
 use Rattle.floor.specs.Numbers.{most-on-side}
@@ -27,8 +27,9 @@ abbrev pub owns : FilePlant → ℕ → ℕ → ℕ
 owns f s p = own-at (f .head) (vec-items (f .lanes)) (end-of s) (station-of s) p
 
 -- the list has these own caps
-abbrev pub Owns : FilePlant → SideLanes → List ℕ → Type 0
-Owns f on xs = (p : ℕ) → p < on .count → getD xs p 0 ≡ owns f (on .side) p
+pub record Owns (f : FilePlant) (on : SideLanes) (xs : List ℕ) : Type 0 where
+  pub long : length xs ≡ most-on-side
+  pub each : (p : ℕ) → p < on .count → getD xs p 0 ≡ owns f (on .side) p
 
 -- the cap of a set of a side of a file plant, by its limit
 abbrev pub limit-cap : FilePlant → ℕ → Option format.Limit → ℕ → ℕ

@@ -20,3 +20,14 @@ pub fn contains(set: usize, position: usize) -> bool
 {
     set >> position & 1 == 1
 }
+
+// stub
+pub fn cap_of(limit: Limit, own: &[u32], set: usize) -> u32
+    requires keeps { ⌜ limit-keeps (length (now own)) (told limit) ≡ true ⌝ }
+    requires narrow { ⌜ length (now own) ≤ 8 ⌝ }
+    requires low { ⌜ ((p : ℕ) → p < length (now own) → getD (now own) p 0 ≤ 100000) ⌝ }
+    requires on { ⌜ set < 2 ^ length (now own) ⌝ }
+    ensures { λ r. ⌜ r ≡ cap-by (length (now (own .entry))) (λ p. getD (now (own .entry)) p 0) (Some (told (limit .entry))) set ⌝ }
+{
+    0
+}

@@ -1,0 +1,4 @@
+use Rattle.plantfile.proofs.limits.cap_of.Needs as need
+
+pub returns : need.returns
+returns c = ?

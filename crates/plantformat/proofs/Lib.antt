@@ -1,2 +1,4 @@
 pub mod Verdicts
 pub mod Frames
+pub mod Bodies
+pub mod Limits

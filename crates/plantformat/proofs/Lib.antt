@@ -3,3 +3,5 @@ pub mod Frames
 pub mod Bodies
 pub mod Limits
 pub mod Parts
+pub mod Sides
+pub mod Keeping

@@ -1,0 +1,80 @@
+-- How many lanes a side has when lanes are added to a floor.
+use mathlib.Core.Path.{_≡_, refl, sym, ap, subst, _∙_}
+use mathlib.Core.Bool.{Bool, true, false, cond}
+use mathlib.Core.Logic.{inl, inr}
+use mathlib.Core.List.{List, [], _∷_, _++_}
+use Prim.Native.Nat.{ℕ, zero, suc, _+_, _*_, _/_, _%_, _≤_, _<_}
+use native.Mathlib.Omega.{arith}
+use native.Mathlib.Numerals.{add-one}
+use lib.Dec.{eqb}
+use lib.ListN.{length, getD}
+use Rattle.std.proofs.shelf.Tests.{eqb-true, eqb-false, eq-eqb, ne-eqb, cases-eq, cases-bool, cond-true}
+use Rattle.std.proofs.shelf.Lists.{getD-append-left, getD-at, length-append, length-push}
+use Rattle.floor.specs.Floor.{Floor, side, end-of, station-of, on, place, count, width}
+use Rattle.plantformat.specs.declared.Head.{Head}
+use Rattle.plantformat.specs.declared.Lane.{Lane}
+use Rattle.plantformat.specs.Records.{lane, lane-end, floor-of}
+
+-- ---- sides
+
+pub end-of-side : (d : Bool) (i : ℕ) → end-of (side d i) ≡ d
+end-of-side true i = eq-eqb ((2 * i + 1) % 2) 1 (omega arith)
+end-of-side false i = ne-eqb ((2 * i + 0) % 2) 1 (omega arith)
+
+pub station-of-side : (d : Bool) (i : ℕ) → station-of (side d i) ≡ i
+station-of-side true i = omega arith
+station-of-side false i = omega arith
+
+pub side-of-both : (s : ℕ) → side (end-of s) (station-of s) ≡ s
+side-of-both s = by (end-of s) refl
+  where
+    by : (d : Bool) → end-of s ≡ d → side d (station-of s) ≡ s
+    by true e = let h = eqb-true (s % 2) 1 e in omega arith
+    by false e = let h = eqb-false (s % 2) 1 e in omega arith
+
+-- ---- places
+
+module _ (F : Floor) (d : Bool) (i : ℕ) where
+  pub place-more : (e n : ℕ) → e ≤ n → place F d i e ≤ place F d i n
+  unfolding place
+  place-more e zero l = let q : e ≡ 0 = omega arith in omega (arith, ap (place F d i) q)
+  place-more e (suc n) l =
+      elim (cases-eq e (suc n)) [
+        | inl q ↦ omega (arith, ap (place F d i) q)
+        | inr q ↦ omega (arith, place-more e n (omega arith))
+      ]
+
+module _ (h : Head) (ls more : List Lane) (d : Bool) (i : ℕ) where
+  -- lanes that come later change no place
+  pub place-front : (e : ℕ) → e ≤ length ls → place (floor-of h (ls ++ more)) d i e ≡ place (floor-of h ls) d i e
+  unfolding place
+  place-front zero l = refl
+  place-front (suc e) l =
+      let ih = place-front e (omega arith) in
+      let q : lane (ls ++ more) e ≡ lane ls e = getD-append-left ls more _ e (omega arith) in
+      let r : on (floor-of h (ls ++ more)) d i e ≡ on (floor-of h ls) d i e = ap (λ (l : Lane). eqb (lane-end d l) i) q in
+      cc
+
+module _ (h : Head) (ls : List Lane) (l : Lane) (more : List Lane) (d : Bool) (i : ℕ) where
+  -- the place after the lane
+  pub place-after : place (floor-of h (ls ++ l ∷ more)) d i (suc (length ls)) ≡ count (floor-of h ls) d i + cond (eqb (lane-end d l) i) 1 0
+  unfolding place
+  place-after =
+      let p = place-front h ls (l ∷ more) d i (length ls) (omega arith) in
+      let q : lane (ls ++ l ∷ more) (length ls) ≡ l = getD-at ls l more _ (length ls) refl in
+      let r : on (floor-of h (ls ++ l ∷ more)) d i (length ls) ≡ eqb (lane-end d l) i = ap (λ (l : Lane). eqb (lane-end d l) i) q in
+      cc
+
+  -- a side has no fewer lanes when others come later
+  pub count-grows : count (floor-of h ls) d i + cond (eqb (lane-end d l) i) 1 0 ≤ count (floor-of h (ls ++ l ∷ more)) d i
+  count-grows =
+      let p = place-after in
+      let n : length (ls ++ l ∷ more) ≡ length ls + suc (length more) = length-append ls (l ∷ more) in
+      omega (arith, place-more (floor-of h (ls ++ l ∷ more)) d i (suc (length ls)) (length (ls ++ l ∷ more)) (omega arith))
+
+-- with one lane more
+pub count-push : (h : Head) (ls : List Lane) (l : Lane) (d : Bool) (i : ℕ)
+    → count (floor-of h (ls ++ l ∷ [])) d i ≡ count (floor-of h ls) d i + cond (eqb (lane-end d l) i) 1 0
+count-push h ls l d i =
+    let n : length (ls ++ l ∷ []) ≡ suc (length ls) = length-push ls l ∙ add-one (length ls) in
+    ap (place (floor-of h (ls ++ l ∷ [])) d i) n ∙ place-after h ls l [] d i

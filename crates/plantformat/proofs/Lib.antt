@@ -5,3 +5,4 @@ pub mod Limits
 pub mod Parts
 pub mod Sides
 pub mod Keeping
+pub mod Reading

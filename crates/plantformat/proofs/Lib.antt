@@ -6,3 +6,4 @@ pub mod Parts
 pub mod Sides
 pub mod Keeping
 pub mod Reading
+pub mod Rereading

@@ -149,11 +149,11 @@ part-ok kind.Grades d at b {p} {next} e f =
 
 -- ---- one record more is read and placed
 
-pub Taken : Draft → Kind → List ℕ → Draft → ℕ → Type 0
+abbrev pub Taken : Draft → Kind → List ℕ → Draft → ℕ → Type 0
 Taken d k b next at = (p : Part) × (part-read k (lanes-may-come d) (d .head .stations) at b ≡ Ok p) × (placed d at p ≡ Ok next)
 
 pub lane-taken : (d : Draft) (at : ℕ) (b : List ℕ) (l : Lane) (next : Draft) → Lane-body l b → Lane-more d l next → Taken d kind.Lane b next at
-unfolding lane-keeps Taken
+unfolding lane-keeps
 lane-taken d at b l next r m =
     let p = and-parts (lane-ranged (d .head .stations) l) (lane-leads (d .head) l) (m .keeps) in
     (a-lane l,
@@ -169,7 +169,6 @@ limit-there d at m s r next es l e =
 
 pub limit-taken : (d : Draft) (at : ℕ) (b : List ℕ) (m : Limit) (next : Draft) → Limit-body m b → Limit-more d m next
     → Taken d (limit-kind m) b next at
-unfolding Taken
 limit-taken d at b (table s caps) next r l =
     let size = r .size in
     let side = r .side in

@@ -7,3 +7,4 @@ pub mod Sides
 pub mod Keeping
 pub mod Reading
 pub mod Rereading
+pub mod Judged

@@ -24,7 +24,7 @@ use Rattle.plantformat.proofs.Frames.{framed-cut}
 use Rattle.plantformat.proofs.Parts.{Lane-more, Limit-more, More, lane-more, limit-more, part-ok}
 use Rattle.plantformat.proofs.Keeping.{Kept, kept-lane, kept-limit}
 
-pub Keeping : Draft → Type 0
+abbrev pub Keeping : Draft → Type 0
 Keeping d = Kept (d .head) (d .lanes) (d .limits)
 
 -- the bytes are rows of lanes and of limits, with which the draft is the last one; if it has a limit then no lane comes
@@ -102,7 +102,6 @@ more-first d k b front rest next last c (limit-more l e body m) r =
     limit-first d l front rest last (b, subst (λ x. Record-bytes x b front) e c, body) (subst⁻¹ (λ x. Rows x rest last) (m .with-it) r)
 
 more-kept : (d : Draft) (k : Kind) (b : List ℕ) (next : Draft) → More d k b next → Keeping d → Keeping next
-unfolding Keeping
 more-kept d k b next (lane-more l e body m) r =
     let none = m .no-limits in
     subst Keeping (m .with-it)

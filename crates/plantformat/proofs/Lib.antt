@@ -1,7 +1,7 @@
 pub mod Verdicts
 pub mod Frames
 pub mod Bodies
-pub mod Limits
+pub mod LimitsRead
 pub mod Parts
 pub mod Sides
 pub mod Keeping

@@ -23,7 +23,7 @@ use Rattle.plantformat.specs.Rules.{head-keeps, lane-ranged, lane-leads, lane-
 use Rattle.plantformat.specs.Encoding.{limit-kind, Head-body, Lane-body, Limit-body}
 use Rattle.plantformat.specs.Judge.{Part, a-lane, a-table, a-groups, a-grades, Draft, draft, crowded, width-of, lanes-may-come, head-at, head-read, lane-at, lane-read, laned, fixed-part, part-read, placed, lane-placed, limit-added, limit-placed, table-read, groups-read, grades-read}
 use Rattle.plantformat.proofs.Verdicts.{unless-ok, unless-not-ok, unless-passed, unless-not-passed, ok-same}
-use Rattle.plantformat.proofs.Limits.{Limit-read, table-ok, table-at, groups-ok, groups-at, grades-ok, grades-at}
+use Rattle.plantformat.proofs.LimitsRead.{Limit-read, table-ok, table-at, groups-ok, groups-at, grades-ok, grades-at}
 
 -- the draft has room for the lane, and is the second draft with it
 pub record Lane-more (d : Draft) (l : Lane) (next : Draft) : Type 0 where

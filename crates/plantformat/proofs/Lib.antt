@@ -1,3 +1,6 @@
+pub mod Limits
+pub mod Tests
+pub mod Lawful
 pub mod Verdicts
 pub mod Frames
 pub mod Bodies

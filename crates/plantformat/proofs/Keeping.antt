@@ -12,16 +12,16 @@ use Rattle.std.specs.declared.option.Option.the-variants.{Some, None}
 use Rattle.std.specs.Options.{isSome}
 use Rattle.std.proofs.shelf.Tests.{ltb-true, lt-ltb, eqb-true, eqb-false, cond-true, cond-false, leb-true, leb-false, le-leb, eq-eqb, lt-leb, and-parts, and-from, or-parts, or-from, cases-bool, not-true, not-from-false, ne-eqb}
 use Rattle.std.proofs.shelf.Lists.{length-append, length-push}
-use Rattle.polymatroid.specs.Tables.{every}
-use Rattle.polymatroid.proofs.Tables.{every-at, every-from}
 use Rattle.floor.specs.Numbers.{most-lanes, most-on-side}
+use Rattle.floor.proofs.Places.{end-of-side, station-of-side, side-again, side-below}
 use Rattle.floor.specs.Floor.{side, end-of, station-of, leaving, entering, place, count, width}
 use Rattle.plantformat.specs.declared.Head.{Head}
 use Rattle.plantformat.specs.declared.Lane.{Lane}
 use Rattle.plantformat.specs.Records.{Limit, side-of, lane-end, floor-of, limit-of}
 use Rattle.plantformat.specs.Rules.{all-of, head-keeps, lane-ranged, lane-leads, lane-keeps, narrow, limit-keeps, one-each, keeps}
 use Rattle.plantformat.specs.Judge.{crowded}
-use Rattle.plantformat.proofs.Sides.{end-of-side, station-of-side, side-of-both, count-grows, count-push}
+use Rattle.plantformat.proofs.Tests.{narrow-at, narrow-from}
+use Rattle.plantformat.proofs.Sides.{count-grows, count-push}
 
 -- ---- every element passes
 
@@ -97,40 +97,33 @@ crowded-not h ls l few room =
 
 narrow-push : (h : Head) (ls : List Lane) (l : Lane) → narrow h ls ≡ true
     → ((d : Bool) → width (floor-of h ls) (side d (lane-end d l)) < most-on-side) → narrow h (ls ++ l ∷ []) ≡ true
-unfolding narrow
 narrow-push h ls l a room =
-    every-from (2 * h .stations) (λ s. leb (width (floor-of h (ls ++ l ∷ [])) s) most-on-side)
+    narrow-from h (ls ++ l ∷ [])
     (λ s b.
-    let w = leb-true (width (floor-of h ls) s) most-on-side (every-at (2 * h .stations) (λ s. leb (width (floor-of h ls) s) most-on-side) a s b) in
+    let w = narrow-at h ls a s b in
     let c = count-push h ls l (end-of s) (station-of s) in
-    le-leb _ _ (elim (cases-bool (eqb (lane-end (end-of s) l) (station-of s))) [
+    elim (cases-bool (eqb (lane-end (end-of s) l) (station-of s))) [
       | inl t ↦
-          let q : side (end-of s) (lane-end (end-of s) l) ≡ s = ap (side (end-of s)) (eqb-true _ _ t) ∙ side-of-both s in
+          let q : side (end-of s) (lane-end (end-of s) l) ≡ s = ap (side (end-of s)) (eqb-true _ _ t) ∙ side-again s in
           let r = ap (λ x. width (floor-of h ls) x) q in
           let v = cond-true {A = ℕ} (eqb (lane-end (end-of s) l) (station-of s)) 1 0 t in
           omega (arith, room (end-of s))
       | inr t ↦ let v = cond-false {A = ℕ} (eqb (lane-end (end-of s) l) (station-of s)) 1 0 t in omega arith
-    ]))
-
-side-below : (d : Bool) (i n : ℕ) → i < n → side d i < 2 * n
-side-below true i n l = omega arith
-side-below false i n l = omega arith
+    ])
 
 -- a floor without lanes has narrow sides
 narrow-none : (h : Head) → narrow h [] ≡ true
-unfolding narrow place
-narrow-none h = every-from (2 * h .stations) (λ s. leb (width (floor-of h []) s) most-on-side) (λ s b. refl)
+unfolding place
+narrow-none h = narrow-from h [] (λ s b. omega arith)
 
 -- a lane of a narrow floor finds room among the lanes before it
 narrow-middle : (h : Head) (ls : List Lane) (l : Lane) (more : List Lane) → narrow h (ls ++ l ∷ more) ≡ true
     → (d : Bool) → lane-end d l < h .stations → width (floor-of h ls) (side d (lane-end d l)) < most-on-side
-unfolding narrow
 narrow-middle h ls l more a d on =
     let i : ℕ = lane-end d l in
     let s : ℕ = side d i in
     let b : s < 2 * h .stations = side-below d i (h .stations) on in
-    let w = leb-true (width (floor-of h (ls ++ l ∷ more)) s) most-on-side
-    (every-at (2 * h .stations) (λ s. leb (width (floor-of h (ls ++ l ∷ more)) s) most-on-side) a s b) in
+    let w = narrow-at h (ls ++ l ∷ more) a s b in
     let c = count-grows h ls l more d i in
     let v = cond-true {A = ℕ} (eqb i i) 1 0 (eq-eqb i i refl) in
     let p : width (floor-of h ls) s ≡ count (floor-of h ls) d i = λ j. count (floor-of h ls) (end-of-side d i j) (station-of-side d i j) in

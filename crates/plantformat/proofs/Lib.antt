@@ -11,3 +11,4 @@ pub mod Keeping
 pub mod Reading
 pub mod Rereading
 pub mod Judged
+pub mod Accepted

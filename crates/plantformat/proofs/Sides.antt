@@ -10,39 +10,11 @@ use lib.Dec.{eqb}
 use lib.ListN.{length, getD}
 use Rattle.std.proofs.shelf.Tests.{eqb-true, eqb-false, eq-eqb, ne-eqb, cases-eq, cases-bool, cond-true}
 use Rattle.std.proofs.shelf.Lists.{getD-append-left, getD-at, length-append, length-push}
+use Rattle.floor.proofs.Places.{place-rises}
 use Rattle.floor.specs.Floor.{Floor, side, end-of, station-of, on, place, count, width}
 use Rattle.plantformat.specs.declared.Head.{Head}
 use Rattle.plantformat.specs.declared.Lane.{Lane}
 use Rattle.plantformat.specs.Records.{lane, lane-end, floor-of}
-
--- ---- sides
-
-pub end-of-side : (d : Bool) (i : ℕ) → end-of (side d i) ≡ d
-end-of-side true i = eq-eqb ((2 * i + 1) % 2) 1 (omega arith)
-end-of-side false i = ne-eqb ((2 * i + 0) % 2) 1 (omega arith)
-
-pub station-of-side : (d : Bool) (i : ℕ) → station-of (side d i) ≡ i
-station-of-side true i = omega arith
-station-of-side false i = omega arith
-
-pub side-of-both : (s : ℕ) → side (end-of s) (station-of s) ≡ s
-side-of-both s = by (end-of s) refl
-  where
-    by : (d : Bool) → end-of s ≡ d → side d (station-of s) ≡ s
-    by true e = let h = eqb-true (s % 2) 1 e in omega arith
-    by false e = let h = eqb-false (s % 2) 1 e in omega arith
-
--- ---- places
-
-module _ (F : Floor) (d : Bool) (i : ℕ) where
-  pub place-more : (e n : ℕ) → e ≤ n → place F d i e ≤ place F d i n
-  unfolding place
-  place-more e zero l = let q : e ≡ 0 = omega arith in omega (arith, ap (place F d i) q)
-  place-more e (suc n) l =
-      elim (cases-eq e (suc n)) [
-        | inl q ↦ omega (arith, ap (place F d i) q)
-        | inr q ↦ omega (arith, place-more e n (omega arith))
-      ]
 
 module _ (h : Head) (ls more : List Lane) (d : Bool) (i : ℕ) where
   -- lanes that come later change no place
@@ -70,7 +42,7 @@ module _ (h : Head) (ls : List Lane) (l : Lane) (more : List Lane) (d : Bool) (i
   count-grows =
       let p = place-after in
       let n : length (ls ++ l ∷ more) ≡ length ls + suc (length more) = length-append ls (l ∷ more) in
-      omega (arith, place-more (floor-of h (ls ++ l ∷ more)) d i (suc (length ls)) (length (ls ++ l ∷ more)) (omega arith))
+      omega (arith, place-rises (floor-of h (ls ++ l ∷ more)) d i (suc (length ls)) (length (ls ++ l ∷ more)) (omega arith))
 
 -- with one lane more
 pub count-push : (h : Head) (ls : List Lane) (l : Lane) (d : Bool) (i : ℕ)

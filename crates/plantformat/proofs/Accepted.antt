@@ -1,6 +1,5 @@
 -- The files that the judge accepts are the plant files, each read as the records that it encodes.
-use mathlib.Core.Path.{_≡_}
-use Rattle.plantformat.specs.Promise.{Plant-file, Accepted-files-encode, Encodings-are-accepted}
+use Rattle.plantformat.specs.Promise.{Accepted-files-encode, Encodings-are-accepted}
 use Rattle.plantformat.proofs.Tests.{keeps-rules, rules-keep}
 use Rattle.plantformat.proofs.Judged.{judged-encodes, encoded-judged}
 

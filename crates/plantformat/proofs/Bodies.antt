@@ -1,14 +1,13 @@
 -- The body of a limit, as it is read: the numbers that a reader lists are those that the body holds, and no others.
-use mathlib.Core.Path.{_≡_, refl, sym, ap, subst, _∙_}
-use mathlib.Core.List.{List, [], _∷_, map}
-use Prim.Native.Nat.{ℕ, _+_, _-_, _*_, _/_, _≤_, _<_}
+use mathlib.Core.Path.{_≡_, refl, sym, ap, _∙_}
+use mathlib.Core.List.{List}
+use Prim.Native.Nat.{ℕ, _+_, _*_, _/_, _<_}
 use native.Mathlib.Omega.{arith}
 use lib.ListN.{length, getD, drop}
-use Rattle.std.specs.Iters.{counting}
 use Rattle.std.proofs.shelf.Lists.{length-drop, getD-drop}
 use Rattle.std.proofs.shelf.Counted.{length-map-counting, getD-map-counting, fill-by-all}
 use Rattle.plantformat.specs.Bytes.{word, long, listed}
-use Rattle.plantformat.specs.Encoding.{Table-body, Groups-body, Grades-body}
+use Rattle.plantformat.specs.Encoding.{Groups-body}
 use Rattle.plantformat.specs.Judge.{longs, parents-at, bounds-at, members-at}
 
 -- ---- numbers behind the first n bytes
@@ -75,10 +74,10 @@ module _ (b : List ℕ) (g k : ℕ) where
         number = omega arith;
         parent-at = λ j l. sym (listed-at g (λ j. word (drop 4 b) (6 * j)) j (omega arith) ∙ word-drop 4 b (6 * j) (4 + 6 * j) refl);
         bound-at = λ j l.
-        sym (listed-at g (λ j. long (drop 4 b) (6 * j + 2)) j (omega arith) ∙ long-drop 4 b (6 * j + 2) (6 + 6 * j) (omega arith));
+            sym (listed-at g (λ j. long (drop 4 b) (6 * j + 2)) j (omega arith) ∙ long-drop 4 b (6 * j + 2) (6 + 6 * j) (omega arith));
         member-at = λ i l.
-        sym (listed-at k (λ p. word (drop 4 b) (6 * g + 2 * p)) i (omega arith)
-        ∙ word-drop 4 b (6 * g + 2 * i) (4 + 6 * length (parents-at g (drop 4 b)) + 2 * i) (omega arith));
+            sym (listed-at k (λ p. word (drop 4 b) (6 * g + 2 * p)) i (omega arith)
+            ∙ word-drop 4 b (6 * g + 2 * i) (4 + 6 * length (parents-at g (drop 4 b)) + 2 * i) (omega arith));
       }
 
 module _ (s : ℕ) (ps qs ms b : List ℕ) (r : Groups-body s ps qs ms b) where

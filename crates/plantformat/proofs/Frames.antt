@@ -1,23 +1,22 @@
 -- A record is cut off the front of the bytes just where the bytes begin with the bytes of a record.
 use mathlib.Core.Path.{_≡_, refl, sym, ap, subst, _∙_}
 use mathlib.Core.Bool.{Bool, true, false, cond, _||_}
-use mathlib.Core.List.{List, [], _∷_, _++_}
-use Prim.Native.Nat.{ℕ, _+_, _-_, _*_, _≤_, _<_, min}
+use mathlib.Core.List.{List, _++_}
+use Prim.Native.Nat.{ℕ, _+_, _-_, _≤_}
 use native.Mathlib.Omega.{arith}
 use lib.Dec.{eqb, ltb}
-use lib.ListN.{length, getD, take, drop}
+use lib.ListN.{length, take, drop}
 use Rattle.std.specs.declared.option.Option.{Option}
 use Rattle.std.specs.declared.option.Option.the-variants.{Some, None}
-use Rattle.std.specs.declared.result.Result.{Result}
-use Rattle.std.specs.declared.result.Result.the-variants.{Ok, Err}
-use Rattle.std.proofs.shelf.Tests.{ltb-false, le-ltb, or-parts, or-from, cond-true, cond-false, eqb-true, cases-bool}
+use Rattle.std.specs.declared.result.Result.the-variants.{Ok}
+use Rattle.std.proofs.shelf.Tests.{ltb-false, le-ltb, or-parts, or-from, eqb-true}
 use Rattle.std.proofs.shelf.Lists.{length-take, length-drop, length-append, getD-take, getD-append-left, take-append-drop, drop-take, drop-append-le, take-at, drop-at}
 use Rattle.plantformat.specs.declared.Kind.{Kind}
 use Rattle.plantformat.specs.declared.Kind.the-variants as kind
 use Rattle.plantformat.specs.declared.FramingFault.{FramingFault}
 use Rattle.plantformat.specs.Bytes.{word}
 use Rattle.plantformat.specs.Encoding.{Record-bytes, kind-number}
-use Rattle.plantformat.specs.Judge.{Frame, frame, kind-of, cut-short, kinded, framed, unless}
+use Rattle.plantformat.specs.Judge.{Frame, frame, kind-of, cut-short, kinded, framed}
 use Rattle.plantformat.proofs.Verdicts.{unless-ok, unless-passed, ok-same}
 
 -- ---- kinds

@@ -1,21 +1,19 @@
 -- The judge accepts just the bytes that encode a head, lanes and limits which pass the tests of the rules.
-use mathlib.Core.Path.{_≡_, refl, sym, ap, subst, subst⁻¹, _∙_}
-use mathlib.Core.Bool.{Bool, true, false, cond}
-use mathlib.Core.List.{List, [], _∷_, _++_}
-use Prim.Native.Nat.{ℕ, _+_, _≤_, _<_}
+use mathlib.Core.Path.{_≡_, refl, ap, subst, _∙_}
+use mathlib.Core.Bool.{true}
+use mathlib.Core.List.{List, [], _++_}
+use Prim.Native.Nat.{ℕ, _≤_}
 use native.Mathlib.Omega.{arith}
 use lib.Dec.{eqb, ltb}
 use lib.ListN.{length}
 use Rattle.std.specs.declared.result.Result.{Result}
-use Rattle.std.specs.declared.result.Result.the-variants.{Ok, Err}
+use Rattle.std.specs.declared.result.Result.the-variants.{Ok}
 use Rattle.std.proofs.shelf.Tests.{ltb-false, le-ltb, ne-eqb}
-use Rattle.std.proofs.shelf.Lists.{length-append}
 use Rattle.plantformat.specs.Numbers.{most-bytes}
 use Rattle.plantformat.specs.declared.Head.{Head}
 use Rattle.plantformat.specs.declared.Lane.{Lane}
 use Rattle.plantformat.specs.declared.Kind.{Kind}
 use Rattle.plantformat.specs.declared.Kind.the-variants as kind
-use Rattle.plantformat.specs.declared.RecordFault.{RecordFault}
 use Rattle.plantformat.specs.declared.RecordFault.the-variants as rec
 use Rattle.plantformat.specs.declared.FloorFault.{FloorFault}
 use Rattle.plantformat.specs.declared.FloorFault.the-variants as flo
@@ -26,7 +24,7 @@ use Rattle.plantformat.specs.Judge.{Frame, frame, Draft, draft, onward, with-r
 use Rattle.plantformat.proofs.Verdicts.{unless-ok, unless-passed, onward-ok, with-rest-ok}
 use Rattle.plantformat.proofs.Frames.{framed-cut, framed-at}
 use Rattle.plantformat.proofs.Parts.{head-ok, head-there}
-use Rattle.plantformat.proofs.Keeping.{Kept, kept-parts, kept-from, kept-head}
+use Rattle.plantformat.proofs.Keeping.{kept-parts, kept-from, kept-head}
 use Rattle.plantformat.proofs.Reading.{Rows, rest-shorter, read-ok}
 use Rattle.plantformat.proofs.Rereading.{lanes-read}
 

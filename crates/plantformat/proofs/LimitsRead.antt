@@ -1,13 +1,13 @@
 -- A limit is read just where the body is the limit's and the limit keeps its rules.
 use mathlib.Core.Path.{_≡_, refl, sym, ap, subst, _∙_}
-use mathlib.Core.Bool.{Bool, true, false, cond, not, _&&_, _||_}
+use mathlib.Core.Bool.{true, not, _&&_, _||_}
 use mathlib.Core.List.{List}
-use Prim.Native.Nat.{ℕ, _+_, _-_, _*_, _/_, _^_, _≤_, _<_}
+use Prim.Native.Nat.{ℕ, _+_, _*_, _^_, _≤_}
 use native.Mathlib.Omega.{arith}
 use lib.Dec.{eqb, ltb, leb}
 use lib.ListN.{length, getD, drop}
 use Rattle.std.specs.declared.result.Result.{Result}
-use Rattle.std.specs.declared.result.Result.the-variants.{Ok, Err}
+use Rattle.std.specs.declared.result.Result.the-variants.{Ok}
 use Rattle.std.proofs.shelf.Tests.{ltb-false, le-ltb, eqb-true, eq-eqb, leb-true, le-leb, and-parts, and-from, or-parts, or-from}
 use Rattle.std.proofs.shelf.Ways.{tells}
 use Rattle.std.proofs.shelf.Lists.{length-drop}
@@ -71,7 +71,7 @@ table-ok k at s b {m} low es e =
       side = refl;
       body = record { size = omega arith; side = es; caps-at = λ X h. longs-at b (2 ^ k) size X (omega arith) };
       keeps = and-from _ _ (eq-eqb _ _ c) (and-from _ _ (p₁ .0) (eq-eqb _ _ (unbroken k (λ X. getD (longs (drop 2 b)) X 0)
-      (eqb-true _ _ (p₂ .0)) (p₃ .0) (p₄ .0))));
+          (eqb-true _ _ (p₂ .0)) (p₃ .0) (p₄ .0))));
     } in
     subst (Limit-read kind.Table k s b) (ok-same {E = FloorFault} (p₄ .1)) r
 
@@ -127,8 +127,8 @@ groups-ok k at s g b {m} low es eg e =
       side = refl;
       body = groups-body b g k s size es eg;
       keeps = and-from _ _ (le-leb 1 (length ps) (omega arith)) (and-from _ _ (le-leb (length ps) most-groups (omega arith))
-      (and-from _ _ (eq-eqb (length qs) (length ps) (omega arith)) (and-from _ _ (eq-eqb (length ms) k a₃)
-      (subst (λ j. (parents-keep ps && (all-at-most top-cap qs && all-below j ms)) ≡ true) (sym a₁) (p₂ .0)))));
+          (and-from _ _ (eq-eqb (length qs) (length ps) (omega arith)) (and-from _ _ (eq-eqb (length ms) k a₃)
+          (subst (λ j. (parents-keep ps && (all-at-most top-cap qs && all-below j ms)) ≡ true) (sym a₁) (p₂ .0)))));
     } in
     subst (Limit-read kind.Groups k s b) (ok-same {E = FloorFault} (p₂ .1)) r
 

@@ -1,10 +1,10 @@
 -- One record more is taken just where its body is that of a lane or of a limit which the draft has room for.
 use mathlib.Core.Path.{_≡_, refl, sym, ap, subst, subst⁻¹, _∙_}
-use mathlib.Core.Bool.{Bool, true, false, cond, not, _&&_, _||_}
+use mathlib.Core.Bool.{true, false}
 use mathlib.Core.List.{List, [], _∷_, _++_}
-use Prim.Native.Nat.{ℕ, _+_, _*_, _≤_, _<_}
+use Prim.Native.Nat.{ℕ, _*_, _≤_, _<_}
 use native.Mathlib.Omega.{arith}
-use lib.Dec.{eqb, ltb, leb}
+use lib.Dec.{eqb, ltb}
 use lib.ListN.{length, drop}
 use Rattle.std.specs.Options.{isSome}
 use Rattle.std.specs.declared.result.Result.{Result}
@@ -17,7 +17,7 @@ use Rattle.plantformat.specs.declared.Kind.{Kind}
 use Rattle.plantformat.specs.declared.Kind.the-variants as kind
 use Rattle.plantformat.specs.declared.RecordFault.{RecordFault}
 use Rattle.plantformat.specs.declared.FloorFault.{FloorFault}
-use Rattle.plantformat.specs.Bytes.{word, long}
+use Rattle.plantformat.specs.Bytes.{word}
 use Rattle.plantformat.specs.Records.{Limit, table, groups, grades, side-of, limit-of}
 use Rattle.plantformat.specs.Rules.{head-keeps, lane-ranged, lane-leads, lane-keeps, limit-keeps}
 use Rattle.plantformat.specs.Encoding.{limit-kind, Head-body, Lane-body, Limit-body}
@@ -155,10 +155,11 @@ Taken d k b next at = (p : Part) × (part-read k (lanes-may-come d) (d .head .st
 pub lane-taken : (d : Draft) (at : ℕ) (b : List ℕ) (l : Lane) (next : Draft) → Lane-body l b → Lane-more d l next → Taken d kind.Lane b next at
 unfolding lane-keeps
 lane-taken d at b l next r m =
-    let p = and-parts (lane-ranged (d .head .stations) l) (lane-leads (d .head) l) (m .keeps) in
-    (a-lane l,
-    unless-not-passed _ _ _ (eq-eqb (length (d .limits)) 0 (ap length (m .no-limits))) ∙ ap laned (lane-there (d .head .stations) at b l r (p .0)),
-    unless-not-passed _ _ _ (p .1) ∙ unless-passed _ _ _ (m .room) ∙ ap {B = Result Draft FloorFault} Ok (m .with-it))
+    let p = and-parts (lane-ranged (d .head .stations) l) (lane-leads (d .head) l) (m .keeps) in (
+      a-lane l,
+      unless-not-passed _ _ _ (eq-eqb (length (d .limits)) 0 (ap length (m .no-limits))) ∙ ap laned (lane-there (d .head .stations) at b l r (p .0)),
+      unless-not-passed _ _ _ (p .1) ∙ unless-passed _ _ _ (m .room) ∙ ap {B = Result Draft FloorFault} Ok (m .with-it),
+    )
 
 -- a limit that is read for its side is placed there
 limit-there : (d : Draft) (at : ℕ) (m : Limit) (s : ℕ) (r : Result Limit FloorFault) (next : Draft) → side-of m ≡ s → Limit-more d m next
@@ -172,22 +173,27 @@ pub limit-taken : (d : Draft) (at : ℕ) (b : List ℕ) (m : Limit) (next : Draf
 limit-taken d at b (table s caps) next r l =
     let size = r .size in
     let side = r .side in
-    let on = l .on-floor in
-    (a-table (word b 0) (drop 2 b), fixed-there 2 (d .head .stations) at b (a-table (word b 0) (drop 2 b)) (omega arith) (omega arith),
-    limit-there d at (table s caps) (word b 0) _ next (sym side) l
-    (ap (λ x. table-read (width-of d x) at x (drop 2 b)) side ∙ table-at (width-of d s) at s caps b r (l .keeps)))
+    let on = l .on-floor in (
+      a-table (word b 0) (drop 2 b),
+      fixed-there 2 (d .head .stations) at b (a-table (word b 0) (drop 2 b)) (omega arith) (omega arith),
+      limit-there d at (table s caps) (word b 0) _ next (sym side) l
+          (ap (λ x. table-read (width-of d x) at x (drop 2 b)) side ∙ table-at (width-of d s) at s caps b r (l .keeps)),
+    )
 limit-taken d at b (groups s ps qs ms) next r l =
     let size = r .size in
     let side = r .side in
-    let on = l .on-floor in
-    (a-groups (word b 0) (word b 2) (drop 4 b),
-    fixed-there 4 (d .head .stations) at b (a-groups (word b 0) (word b 2) (drop 4 b)) (omega arith) (omega arith),
-    limit-there d at (groups s ps qs ms) (word b 0) _ next (sym side) l
-    ((λ i. groups-read (width-of d (side i)) at (side i) (r .number i) (drop 4 b)) ∙ groups-at (width-of d s) at s ps qs ms b r (l .keeps)))
+    let on = l .on-floor in (
+      a-groups (word b 0) (word b 2) (drop 4 b),
+      fixed-there 4 (d .head .stations) at b (a-groups (word b 0) (word b 2) (drop 4 b)) (omega arith) (omega arith),
+      limit-there d at (groups s ps qs ms) (word b 0) _ next (sym side) l
+          ((λ i. groups-read (width-of d (side i)) at (side i) (r .number i) (drop 4 b)) ∙ groups-at (width-of d s) at s ps qs ms b r (l .keeps)),
+    )
 limit-taken d at b (grades s steps) next r l =
     let size = r .size in
     let side = r .side in
-    let on = l .on-floor in
-    (a-grades (word b 0) (drop 2 b), fixed-there 2 (d .head .stations) at b (a-grades (word b 0) (drop 2 b)) (omega arith) (omega arith),
-    limit-there d at (grades s steps) (word b 0) _ next (sym side) l
-    (ap (λ x. grades-read (width-of d x) at x (drop 2 b)) side ∙ grades-at (width-of d s) at s steps b r (l .keeps)))
+    let on = l .on-floor in (
+      a-grades (word b 0) (drop 2 b),
+      fixed-there 2 (d .head .stations) at b (a-grades (word b 0) (drop 2 b)) (omega arith) (omega arith),
+      limit-there d at (grades s steps) (word b 0) _ next (sym side) l
+          (ap (λ x. grades-read (width-of d x) at x (drop 2 b)) side ∙ grades-at (width-of d s) at s steps b r (l .keeps)),
+    )

@@ -2,26 +2,25 @@
 use mathlib.Core.Path.{_≡_, refl, sym, ap, subst, subst⁻¹, _∙_}
 use mathlib.Core.Bool.{Bool, true, false, cond}
 use mathlib.Core.List.{List, [], _∷_, _++_, append-assoc, append-nil}
-use Prim.Native.Nat.{ℕ, zero, suc, _+_, _-_, _≤_, _<_}
+use Prim.Native.Nat.{ℕ, zero, suc, _+_, _-_, _≤_}
 use native.Mathlib.Omega.{arith}
 use lib.Dec.{eqb}
 use lib.ListN.{length}
 use Rattle.std.specs.declared.result.Result.{Result}
-use Rattle.std.specs.declared.result.Result.the-variants.{Ok, Err}
+use Rattle.std.specs.declared.result.Result.the-variants.{Ok}
 use Rattle.std.proofs.shelf.Tests.{eqb-true}
 use Rattle.std.proofs.shelf.Lists.{length-append, nil-from-length}
-use Rattle.plantformat.specs.declared.Head.{Head}
 use Rattle.plantformat.specs.declared.Lane.{Lane}
 use Rattle.plantformat.specs.declared.Kind.{Kind}
 use Rattle.plantformat.specs.declared.Kind.the-variants as kind
 use Rattle.plantformat.specs.declared.FloorFault.{FloorFault}
 use Rattle.plantformat.specs.Records.{Limit}
-use Rattle.plantformat.specs.Encoding.{Record-bytes, Lane-bytes, Limit-bytes, Row, Lane-body, Limit-body, limit-kind}
+use Rattle.plantformat.specs.Encoding.{Record-bytes, Lane-bytes, Limit-bytes, Row}
 use Rattle.plantformat.specs.declared.FloorFault.the-variants as flo
 use Rattle.plantformat.specs.Judge.{onward, framed, part-read, Part, Frame, Draft, draft, recorded, placed, lanes-may-come, read-on}
 use Rattle.plantformat.proofs.Verdicts.{onward-ok, with-rest-ok, ok-same}
 use Rattle.plantformat.proofs.Frames.{framed-cut}
-use Rattle.plantformat.proofs.Parts.{Lane-more, Limit-more, More, lane-more, limit-more, part-ok}
+use Rattle.plantformat.proofs.Parts.{More, lane-more, limit-more, part-ok}
 use Rattle.plantformat.proofs.Keeping.{Kept, kept-lane, kept-limit}
 
 abbrev pub Keeping : Draft → Type 0

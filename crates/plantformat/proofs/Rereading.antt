@@ -1,13 +1,11 @@
 -- Rows of lanes and of limits that keep the rules are read on to the end, as just these lanes and limits.
 use mathlib.Core.Path.{_≡_, refl, sym, ap, subst, subst⁻¹, _∙_}
-use mathlib.Core.Bool.{Bool, true, false, cond}
 use mathlib.Core.List.{List, [], _∷_, _++_, append-assoc, append-nil}
-use Prim.Native.Nat.{ℕ, zero, suc, _+_, _-_, _≤_, _<_}
+use Prim.Native.Nat.{ℕ, zero, suc, _-_, _≤_}
 use native.Mathlib.Omega.{arith}
-use lib.Dec.{eqb}
 use lib.ListN.{length}
 use Rattle.std.specs.declared.result.Result.{Result}
-use Rattle.std.specs.declared.result.Result.the-variants.{Ok, Err}
+use Rattle.std.specs.declared.result.Result.the-variants.{Ok}
 use Rattle.std.proofs.shelf.Tests.{ne-eqb, cond-false}
 use Rattle.std.proofs.shelf.Lists.{length-append}
 use Rattle.plantformat.specs.declared.Head.{Head}
@@ -16,11 +14,10 @@ use Rattle.plantformat.specs.declared.Kind.{Kind}
 use Rattle.plantformat.specs.declared.Kind.the-variants as kind
 use Rattle.plantformat.specs.declared.FloorFault.{FloorFault}
 use Rattle.plantformat.specs.declared.FloorFault.the-variants as flo
-use Rattle.plantformat.specs.declared.RecordFault.{RecordFault}
 use Rattle.plantformat.specs.declared.RecordFault.the-variants as rec
 use Rattle.plantformat.specs.Records.{Limit}
 use Rattle.plantformat.specs.Encoding.{Record-bytes, Lane-bytes, Limit-bytes, Row, limit-kind}
-use Rattle.plantformat.specs.Judge.{Part, Frame, frame, Draft, draft, onward, with-rest, framed, part-read, recorded, placed, lanes-may-come, read-on}
+use Rattle.plantformat.specs.Judge.{Part, Draft, draft, onward, with-rest, part-read, recorded, placed, lanes-may-come, read-on}
 use Rattle.plantformat.proofs.Frames.{framed-at}
 use Rattle.plantformat.proofs.Parts.{Lane-more, Limit-more, Taken, lane-taken, limit-taken}
 use Rattle.plantformat.proofs.Keeping.{Kept, lane-kept, limit-kept}

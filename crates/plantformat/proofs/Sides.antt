@@ -1,17 +1,15 @@
 -- How many lanes a side has when lanes are added to a floor.
-use mathlib.Core.Path.{_≡_, refl, sym, ap, subst, _∙_}
-use mathlib.Core.Bool.{Bool, true, false, cond}
-use mathlib.Core.Logic.{inl, inr}
+use mathlib.Core.Path.{_≡_, refl, ap, _∙_}
+use mathlib.Core.Bool.{Bool, cond}
 use mathlib.Core.List.{List, [], _∷_, _++_}
-use Prim.Native.Nat.{ℕ, zero, suc, _+_, _*_, _/_, _%_, _≤_, _<_}
+use Prim.Native.Nat.{ℕ, zero, suc, _+_, _≤_}
 use native.Mathlib.Omega.{arith}
 use native.Mathlib.Numerals.{add-one}
 use lib.Dec.{eqb}
-use lib.ListN.{length, getD}
-use Rattle.std.proofs.shelf.Tests.{eqb-true, eqb-false, eq-eqb, ne-eqb, cases-eq, cases-bool, cond-true}
+use lib.ListN.{length}
 use Rattle.std.proofs.shelf.Lists.{getD-append-left, getD-at, length-append, length-push}
 use Rattle.floor.proofs.Places.{place-rises}
-use Rattle.floor.specs.Floor.{Floor, side, end-of, station-of, on, place, count, width}
+use Rattle.floor.specs.Floor.{on, place, count}
 use Rattle.plantformat.specs.declared.Head.{Head}
 use Rattle.plantformat.specs.declared.Lane.{Lane}
 use Rattle.plantformat.specs.Records.{lane, lane-end, floor-of}

@@ -1,3 +1,14 @@
 pub mod Limits
 pub mod Tests
 pub mod Lawful
+pub mod Verdicts
+pub mod Frames
+pub mod Bodies
+pub mod LimitsRead
+pub mod Parts
+pub mod Sides
+pub mod Keeping
+pub mod Reading
+pub mod Rereading
+pub mod Judged
+pub mod Accepted

@@ -2,7 +2,7 @@
 use mathlib.Core.Path.{_≡_, refl, sym, ap, subst, subst⁻¹, _∙_}
 use mathlib.Core.Bool.{Bool, true, false, cond}
 use mathlib.Core.List.{List, [], _∷_, _++_, append-assoc, append-nil}
-use Prim.Native.Nat.{ℕ, zero, suc, _+_, _-_, _≤_}
+use Prim.Native.Nat.{ℕ, zero, suc, _+_, _-_, _≤_, _<_}
 use native.Mathlib.Omega.{arith}
 use lib.Dec.{eqb}
 use lib.ListN.{length}
@@ -21,7 +21,8 @@ use Rattle.plantformat.specs.Judge.{onward, framed, part-read, Part, Frame, Dr
 use Rattle.plantformat.proofs.Verdicts.{onward-ok, with-rest-ok, ok-same}
 use Rattle.plantformat.proofs.Frames.{framed-cut}
 use Rattle.plantformat.proofs.Parts.{More, lane-more, limit-more, part-ok}
-use Rattle.plantformat.proofs.Keeping.{Kept, kept-lane, kept-limit}
+use Rattle.plantformat.proofs.Keeping.{Kept, kept-parts, kept-from, kept-lane, kept-limit}
+use Rattle.plantformat.specs.Rules.{keeps}
 
 abbrev pub Keeping : Draft → Type 0
 Keeping d = Kept (d .head) (d .lanes) (d .limits)
@@ -144,6 +145,17 @@ rest-shorter k b bs front rest r e =
     let m = length-append front rest in
     let l = r .long-enough in
     omega arith
+
+-- one record more keeps the rules, and leaves fewer bytes
+pub step-kept : (d : Draft) (at : ℕ) (bs : List ℕ) (p : Part × List ℕ) (next : Draft)
+    → recorded (lanes-may-come d) (d .head .stations) at bs ≡ Ok p → placed d at (p .0) ≡ Ok next
+    → keeps (d .head) (d .lanes) (d .limits) ≡ true
+    → (keeps (next .head) (next .lanes) (next .limits) ≡ true) × (length (p .1) < length bs)
+step-kept d at bs p next e q k =
+    let f = first-ok d at bs p next e q in
+    let s = rest-shorter (f .kind) (f .body) bs (f .front) (p .1) (f .bytes) (f .cut) in
+    (kept-from (next .head) (next .lanes) (next .limits)
+    (more-kept d (f .kind) (f .body) next (f .more) (kept-parts (d .head) (d .lanes) (d .limits) k)), omega arith)
 
 -- the bytes that are read on from a draft which keeps the rules
 pub read-ok : (fuel total : ℕ) (d : Draft) (bs : List ℕ) (last : Draft) → length bs ≤ fuel → Keeping d → read-on fuel total d bs ≡ Ok last

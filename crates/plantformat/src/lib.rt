@@ -3,7 +3,7 @@
 // theorem that the checks accept exactly the files that encode records which keep the rules.
 ghost use mathlib.Core.Path.{_≡_};
 ghost use Rattle.plantformat.specs.Faults.{told, law-number};
-ghost use Rattle.plantformat.specs.Promise.{Accepted-plants-are-lawful};
+ghost use Rattle.plantformat.specs.Promise.{Accepted-files-encode, Encodings-are-accepted, Accepted-plants-are-lawful};
 ghost use Rattle.plantformat.specs.declared.FloorFault.the-variants.{Record, Limit};
 ghost use Rattle.plantformat.specs.declared.RecordFault.the-variants.{Framing};
 use plant::Layer;
@@ -145,6 +145,18 @@ pub fn tell(fault: FloorFault) -> Refusal
         FloorFault::SecondLimit { at } => refusal(Reason::SecondLimit, at),
         FloorFault::Limit(LimitFault::Breaks { at, law }) => Refusal { reason: Reason::Law, layer: Layer::Limit, place: at, law: law.number() },
     }
+}
+
+// A file that is accepted encodes the records that it was read as, and these keep the rules.
+pub fn accepted_files_encode()
+    ensures { λ _. ⌜ Accepted-files-encode ⌝ }
+{
+}
+
+// A file that encodes records which keep the rules is accepted, and is read as just these records.
+pub fn encodings_are_accepted()
+    ensures { λ _. ⌜ Encodings-are-accepted ⌝ }
+{
 }
 
 // Records that keep the rules define a floor and caps that keep the floor's rules and the four laws.

@@ -1,7 +1,10 @@
 pub mod Codes
 pub mod Finite
 pub mod Side
+pub mod Room
 pub mod Unions
+pub mod Exchange
+pub mod Critical
 pub mod Build
 pub mod Tables
 pub mod Layers

@@ -1,6 +1,8 @@
 pub mod Sets
 pub mod Finite
 pub mod Side
+pub mod Exchange
+pub mod Critical
 pub mod Laws
 pub mod Tables
 pub mod Kinds

@@ -1,0 +1,17 @@
+pub mod Paths
+pub mod Loads
+pub mod Hits
+pub mod Visits
+pub mod Arrivals
+pub mod Arrived
+pub mod Mirror
+pub mod Moves
+pub mod Balance
+pub mod Splice
+pub mod Walks
+pub mod Stages
+pub mod Bound
+pub mod Skips
+pub mod Labelling
+pub mod Cuts
+pub mod Finished

@@ -1,0 +1,107 @@
+-- A turn can be left out of a walk.
+use mathlib.Core.Path.{_≡_, refl, sym, ap, subst, subst⁻¹, _∙_}
+use mathlib.Core.Bool.{Bool, true, false, not}
+use mathlib.Core.Logic.{inl, inr, _⊎_}
+use Prim.Native.Nat.{ℕ, zero, suc, min, _+_, _≤_, _<_}
+use native.Mathlib.Omega.{arith}
+use Rattle.std.proofs.shelf.Tests.{cases-lt, cases-eq, eq-eqb}
+use Rattle.polymatroid.specs.Side.{In, Full, Tight, room, roomBut, tightSet, Within, Caps}
+use Rattle.polymatroid.proofs.Side.{tightSet-smallest}
+use Rattle.polymatroid.proofs.Room.{room-but, roomBut-full, full-tight, tight-full, member-from-room}
+use Rattle.floor.specs.Floor.{on, place, count, laneAt}
+use Rattle.floor.specs.Meaning.{Meaning, Lawful}
+use Rattle.network.specs.Trays.{trays}
+use Rattle.network.specs.States.{State, Pole, Plus, Minus, at, roomAt, roomAll, roomLess, amount, Ok, Turn, Step}
+use Rattle.network.specs.Feasible.{Fits}
+use Rattle.floor.proofs.Places.{place-below, place-apart}
+use Rattle.network.proofs.Visits.{Open, Free, open-unless, free-unless, open-free}
+use Rattle.network.proofs.Arrivals.{room-here}
+use Rattle.network.proofs.Mirror.{mirror, mir, lawful-mirror, fits-mirror, amount-mirror, at-mirror, step-back, ok-mirror}
+
+module _ (M : Meaning) (laws : Lawful M) (f : ℕ → ℕ) (fits : Fits M f) (k : ℕ) (kin : k < M .floor .stations) where
+  K : ℕ
+  K = count (M .floor) true k
+
+  w : ℕ → ℕ
+  w = trays M f true k
+
+  caps : Caps (count (M .floor) true k) (M .cap true k)
+  caps = laws .laws true k kin .0
+
+  there : (e : ℕ) → e < M .floor .lanes → M .floor .end true e ≡ k → place (M .floor) true k e < count (M .floor) true k
+  there e l q = place-below (M .floor) true k e l (eq-eqb (M .floor .end true e) k q)
+
+  less-is : (e g : ℕ) → M .floor .end true e ≡ k
+      → roomLess M f true e g ≡ roomBut (count (M .floor) true k) (M .cap true k) (trays M f true k) (place (M .floor) true k e) (place (M .floor) true k g)
+  less-is e g q = ap (λ i. roomAt M f true e (place (M .floor) true i g)) q ∙ room-here M f k e (place (M .floor) true k g) q
+
+  all-is : (e : ℕ) → M .floor .end true e ≡ k → roomAll M f true e ≡ room (count (M .floor) true k) (M .cap true k) (trays M f true k) (place (M .floor) true k e)
+  all-is e q =
+      ap (λ i. roomAt M f true e (count (M .floor) true i)) q ∙ room-here M f k e (count (M .floor) true k) q
+      ∙ sym (room-but (count (M .floor) true k) (M .cap true k) caps (trays M f true k) (fits true k kin) (place (M .floor) true k e))
+
+  -- a lane h that is full, and steps to e, has e full too, and steps to what e steps to
+  full-on : (h e : ℕ) → h < M .floor .lanes → e < M .floor .lanes → M .floor .end true h ≡ k → M .floor .end true e ≡ k → roomAll M f true h ≡ 0 → 0 < roomLess M f true h e
+      → (roomAll M f true e ≡ 0) × ((g : ℕ) → g < M .floor .lanes → M .floor .end true g ≡ k → 0 < roomLess M f true e g → 0 < f g → Step M f (Plus h) (Minus g))
+  full-on h e lh le kh ke z r =
+      let fh : Full (count (M .floor) true k) (M .cap true k) (trays M f true k) (place (M .floor) true k h) = sym (all-is h kh) ∙ z in
+      let t = full-tight (count (M .floor) true k) (M .cap true k) caps (trays M f true k) (fits true k kin) (place (M .floor) true k h) (there h lh kh) fh in
+      let S : ℕ = tightSet (count (M .floor) true k) (M .cap true k) (trays M f true k) (place (M .floor) true k h) in
+      let i : In S (place (M .floor) true k e) =
+      member-from-room (count (M .floor) true k) (M .cap true k) caps (trays M f true k) (fits true k kin) (place (M .floor) true k h) (place (M .floor) true k e)
+      (there h lh kh) fh (omega (arith, less-is h e kh)) in
+      let fe = tight-full (count (M .floor) true k) (M .cap true k) caps (trays M f true k) (fits true k kin) (place (M .floor) true k e) S (t .0) i in (
+        all-is e ke ∙ fe,
+        (λ g lg kg q c. record {
+          ok-from = lh;
+          ok-to = lg;
+          meet = kh ∙ sym kg;
+          some =
+              elim (cases-eq h g) [
+                | inl s ↦ inr s
+                | inr s ↦
+                    let j = member-from-room (count (M .floor) true k) (M .cap true k) caps (trays M f true k) (fits true k kin) (place (M .floor) true k e) (place (M .floor) true k g)
+                    (there e le ke) fe (omega (arith, less-is e g ke)) in
+                    let b = tightSet-smallest (count (M .floor) true k) (M .cap true k) caps (trays M f true k) (fits true k kin) (place (M .floor) true k e) S (t .0) i (place (M .floor) true k g) j in
+                    let a = roomBut-full (count (M .floor) true k) (M .cap true k) caps (trays M f true k) (fits true k kin) (place (M .floor) true k h) (place (M .floor) true k g) (there h lh kh)
+                    (λ o. s (place-apart (M .floor) true k h g (eq-eqb (M .floor .end true h) k kh) (eq-eqb (M .floor .end true g) k kg) o)) b in
+                    inl (omega (arith, less-is h g kh))
+              ];
+        }),
+      )
+
+-- d steps to - e, and + e to z: then d steps to z
+pub skip-in : (M : Meaning) → Lawful M → (f : ℕ → ℕ) → Fits M f → (d z : State) (e : ℕ) → Ok M d → Ok M z → e < M .floor .lanes
+    → at M true d ≡ M .floor .end true e → M .floor .end true e ≡ at M false z → 0 < amount M f d (Minus e) → 0 < amount M f (Plus e) z → Step M f d z
+skip-in M laws f fits d z e od oz le p q a b = by d od p a
+  where
+    free : Free M f z
+    free = free-unless M f (Plus e) z b refl
+
+    -- d is full
+    held : (h : ℕ) → h < M .floor .lanes → M .floor .end true h ≡ M .floor .end true e → roomAll M f true h ≡ 0 → 0 < roomLess M f true h e
+        → (z : State) → Ok M z → M .floor .end true e ≡ at M false z → 0 < amount M f (Plus e) z → Step M f (Plus h) z
+    held h lh kh n r (Pole false) oz q b = absurd (omega arith)
+    held h lh kh n r (Pole true) oz q b =
+        absurd (omega (arith, full-on M laws f fits (M .floor .end true e) (laws .rules .end-on true e le) h e lh le kh refl n r .0))
+    held h lh kh n r (Plus g) oz q b =
+        absurd (omega (arith, full-on M laws f fits (M .floor .end true e) (laws .rules .end-on true e le) h e lh le kh refl n r .0))
+    held h lh kh n r (Minus g) oz q b =
+        full-on M laws f fits (M .floor .end true e) (laws .rules .end-on true e le) h e lh le kh refl n r .1 g oz (sym q) (omega arith) (omega arith)
+
+    by : (d : State) → Ok M d → at M true d ≡ M .floor .end true e → 0 < amount M f d (Minus e) → Step M f d z
+    by (Pole c) od p a = absurd (omega arith)
+    by (Plus h) od p a =
+        elim (cases-lt 0 (roomAll M f true h)) [
+          | inl o ↦ open-free M laws f fits (Plus h) z od oz (p ∙ q) o free
+          | inr o ↦ held h od p (omega arith) (omega arith) z oz q b
+        ]
+    by (Minus h) od p a = open-free M laws f fits (Minus h) z od oz (p ∙ q) (omega arith) free
+
+-- d steps to + e, and - e to z: the mirror image
+pub skip-out : (M : Meaning) → Lawful M → (f : ℕ → ℕ) → Fits M f → (d z : State) (e : ℕ) → Ok M d → Ok M z → e < M .floor .lanes
+    → at M true d ≡ M .floor .end false e → M .floor .end false e ≡ at M false z → 0 < amount M f d (Plus e) → 0 < amount M f (Minus e) z → Step M f d z
+skip-out M laws f fits d z e od oz le p q a b =
+    step-back M f d z
+    (skip-in (mirror M) (lawful-mirror M laws) f (fits-mirror M f fits) (mir z) (mir d) e (ok-mirror M z oz) (ok-mirror M d od) le
+    (at-mirror M true z ∙ sym q) (sym p ∙ sym (at-mirror M false d)) (omega (arith, amount-mirror M f (Minus e) z)) (omega (arith, amount-mirror M f d (Plus e))))

@@ -1,0 +1,48 @@
+-- Plans and cuts of a floor.
+use mathlib.Core.Path.{_≡_}
+use mathlib.Core.Bool.{Bool, true, false, cond, not, _&&_}
+use Prim.Native.Nat.{ℕ, zero, suc, _+_, _*_, _^_, _≤_, _<_}
+use Rattle.polymatroid.specs.Sets.{code}
+use Rattle.polymatroid.specs.Side.{load}
+use Rattle.floor.specs.Floor.{on, place, count, laneAt}
+use Rattle.floor.specs.Meaning.{Meaning, Lawful}
+use Rattle.network.specs.Trays.{trays}
+use Rattle.network.specs.Sums.{sumTo}
+
+-- the trays of the lanes with their end d at station i, of those lanes that pass t
+unfoldable pub through : Meaning → (ℕ → ℕ) → (ℕ → Bool) → Bool → ℕ → ℕ
+through M g t d i = sumTo (λ e. cond (on (M .floor) d i e && t e) (g e) 0) (M .floor .lanes)
+
+-- what leaves the stock
+abbrev pub total : Meaning → (ℕ → ℕ) → ℕ
+total M g = through M g (λ e. true) false (M .floor .pole false)
+
+-- as many trays enter a station as leave it
+abbrev pub Balanced : Meaning → (ℕ → ℕ) → Type 0
+Balanced M g =
+    (i : ℕ) → i < M .floor .stations → (i ≡ M .floor .pole false → ⊥) → (i ≡ M .floor .pole true → ⊥)
+    → through M g (λ e. true) true i ≡ through M g (λ e. true) false i
+
+-- no set carries more than q times its cap
+abbrev pub FitsBy : Meaning → ℕ → (ℕ → ℕ) → Type 0
+FitsBy M q g = (d : Bool) (i X : ℕ) → i < M .floor .stations → X < 2 ^ (count (M .floor) d i) → load (trays M g d i) (count (M .floor) d i) X ≤ q * M .cap d i X
+
+-- the code of the lanes that pass t, at station i by their end d
+unfoldable pub setOf : Meaning → Bool → ℕ → (ℕ → Bool) → ℕ
+setOf M d i t = code (count (M .floor) d i) (λ p. t (laneAt (M .floor) d i p))
+
+-- a lane from a near station to a far one
+abbrev pub crosses : Meaning → (ℕ → Bool) → ℕ → Bool
+crosses M near e = near (M .floor .end false e) && not (near (M .floor .end true e))
+
+-- the capacity of a cut: the near stations, and the lanes among those that cross that count where they leave
+unfoldable pub capacity : Meaning → (ℕ → Bool) → (ℕ → Bool) → ℕ
+capacity M near upper =
+    sumTo (λ i. cond (near i) (M .cap false i (setOf M false i (λ e. crosses M near e && upper e))) 0) (M .floor .stations)
+    + sumTo (λ i. cond (near i) 0 (M .cap true i (setOf M true i (λ e. crosses M near e && not (upper e))))) (M .floor .stations)
+
+-- no plan carries more than a cut lets through
+abbrev pub Cut-bounds : Type 0
+Cut-bounds =
+    (M : Meaning) (near upper : ℕ → Bool) → Lawful M → near (M .floor .pole false) ≡ true → near (M .floor .pole true) ≡ false
+    → (q : ℕ) (g : ℕ → ℕ) → Balanced M g → FitsBy M q g → total M g ≤ q * capacity M near upper

@@ -1,0 +1,9 @@
+pub mod Trays
+pub mod States
+pub mod Sums
+pub mod Feasible
+pub mod Cuts
+pub mod Moves
+pub mod Stages
+pub mod Labelling
+pub mod Finished

@@ -1,0 +1,9 @@
+pub mod Scan
+pub mod Rules
+pub mod Outcomes
+pub mod Finds
+pub mod Closes
+pub mod Steps
+pub mod Wording
+pub mod Augmenting
+pub mod Sweep

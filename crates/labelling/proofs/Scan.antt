@@ -1,0 +1,381 @@
+-- What the scan of a level does to the table.
+use mathlib.Core.Path.{_≡_, refl, sym, ap, subst, subst⁻¹, _∙_}
+use mathlib.Core.Bool.{Bool, true, false, cond, not, _&&_}
+use mathlib.Core.Logic.{inl, inr, _⊎_}
+use mathlib.Core.List.{List, [], _∷_}
+use Prim.Native.Nat.{ℕ, zero, suc, _+_, _-_, _≤_, _<_}
+use native.Mathlib.Omega.{arith}
+use lib.Dec.{eqb, ltb}
+use Rattle.std.proofs.shelf.Tests.{cases-lt, cases-bool, cases-eq, both-ways, eqb-true, eq-eqb}
+use Rattle.network.specs.States.{State, Pole, Plus, Minus}
+use Rattle.network.specs.Stages.{num}
+use Rattle.labelling.specs.Table.{Mark, None, Mk, signed, mark, isAt, stateOf, give, scanned, listed, pass, tab, Sits}
+
+-- the table of a list
+pub listed-at : (h : ℕ → Mark) (n k i : ℕ) → i < n → mark (listed h n k) i ≡ h (k + i)
+unfolding mark listed
+listed-at h zero k i l = absurd (omega arith)
+listed-at h (suc n) k zero l = ap h (omega arith)
+listed-at h (suc n) k (suc i) l = listed-at h n (suc k) i (omega arith) ∙ ap h (omega arith)
+
+pub listed-off : (h : ℕ → Mark) (n k i : ℕ) → n ≤ i → mark (listed h n k) i ≡ None
+unfolding mark listed
+listed-off h zero k i l = refl
+listed-off h (suc n) k zero l = absurd (omega arith)
+listed-off h (suc n) k (suc i) l = listed-off h n (suc k) i (omega arith)
+
+pub none-mk : {A : Type 0} (p : Mark) (s : Bool) (z : State) (k : ℕ) → p ≡ None → p ≡ Mk s z k → A
+none-mk p s z k a b = let q : _≡_ {A = ℕ} 0 1 = cc in absurd (omega arith)
+
+pub cases-mark : (p : Mark) → (p ≡ None) ⊎ ((s : Bool) × (z : State) × (k : ℕ) × (p ≡ Mk s z k))
+cases-mark None = inl refl
+cases-mark (Mk s z k) = inr (s, z, k, refl)
+
+-- a labelled state by its mark
+pub sits-signed : (t : List Mark) (i : ℕ) (s : Bool) (e : ℕ) (z : State) → mark t e ≡ Mk s z i → Sits t i (signed s e)
+sits-signed t i true e z q = (z, q)
+sits-signed t i false e z q = (z, q)
+
+pub record Passed (r : State → State → Bool) (m l : ℕ) (t u : List Mark) : Type 0 where
+  pub keeps : (y : ℕ) (s : Bool) (z : State) (k : ℕ) → y < m → mark t y ≡ Mk s z k → mark u y ≡ Mk s z k
+  pub fresh : (y : ℕ) (s : Bool) (z : State) (k : ℕ) → y < m → mark t y ≡ None → mark u y ≡ Mk s z k
+      → (k ≡ suc l) × Sits t l z × (r z (signed s y) ≡ true) × ((x : State) (b : Bool) → Sits t l x → r x (signed b y) ≡ true → num z ≤ num x)
+  pub none : (y : ℕ) → y < m → mark u y ≡ None → (x : State) (b : Bool) → Sits t l x → r x (signed b y) ≡ true → ⊥
+  pub off : (y : ℕ) → m ≤ y → mark u y ≡ None
+
+module _ (r : State → State → Bool) where
+  -- what a lane without a label has after the scan of the lanes below n
+  unfoldable pub Told : List Mark → ℕ → ℕ → ℕ → Mark → Type 0
+  Told t l y n None = (e : ℕ) → e < n → isAt l (mark t e) ≡ true → (b : Bool) → r (stateOf e (mark t e)) (signed b y) ≡ false
+  Told t l y n (Mk s z k) =
+      (k ≡ suc l) × (e : ℕ) × (e < n) × (isAt l (mark t e) ≡ true) × (z ≡ stateOf e (mark t e)) × (r z (signed s y) ≡ true)
+      × ((d : ℕ) → d < e → isAt l (mark t d) ≡ true → (b : Bool) → r (stateOf d (mark t d)) (signed b y) ≡ false)
+
+  more : (t : List Mark) (l y n : ℕ) (s : Bool) (z : State) (k : ℕ) → Told t l y n (Mk s z k) → Told t l y (suc n) (Mk s z k)
+  unfolding Told
+  more t l y n s z k h = (h .0, h .1, omega (arith, h .2), h .3, h .4, h .5, h .6)
+
+  gives-told : (t : List Mark) (l y n : ℕ) → Told t l y n None → isAt l (mark t n) ≡ true
+      → (a c : Bool) → r (stateOf n (mark t n)) (Plus y) ≡ a → r (stateOf n (mark t n)) (Minus y) ≡ c
+      → Told t l y (suc n) (cond a (Mk true (stateOf n (mark t n)) (suc l)) (cond c (Mk false (stateOf n (mark t n)) (suc l)) None))
+  unfolding Told
+  gives-told t l y n h q true c p o = (refl, n, omega arith, q, refl, p, h)
+  gives-told t l y n h q false true p o = (refl, n, omega arith, q, refl, o, h)
+  gives-told t l y n h q false false p o = λ e w v b. elim (cases-lt e n) [ inl g ↦ h e g v b | inr g ↦ last e (omega arith) b ]
+    where
+      at-n : (b : Bool) → r (stateOf n (mark t n)) (signed b y) ≡ false
+      at-n true = p
+      at-n false = o
+
+      last : (e : ℕ) → n ≡ e → (b : Bool) → r (stateOf e (mark t e)) (signed b y) ≡ false
+      last e g b = subst (λ e. r (stateOf e (mark t e)) (signed b y) ≡ false) g (at-n b)
+
+  told-step : (t : List Mark) (l y n : ℕ) (a : Bool) → isAt l (mark t n) ≡ a → (p : Mark) → Told t l y n p
+      → Told t l y (suc n) (cond a (give r (stateOf n (mark t n)) (suc l) y p) p)
+  unfolding Told
+  told-step t l y n true q (Mk s z k) h = more t l y n s z k h
+  told-step t l y n true q None h =
+      gives-told t l y n h q (r (stateOf n (mark t n)) (Plus y)) (r (stateOf n (mark t n)) (Minus y)) refl refl
+  told-step t l y n false q (Mk s z k) h = more t l y n s z k h
+  told-step t l y n false q None h =
+      λ e w v b. elim (cases-lt e n) [ inl g ↦ h e g v b | inr g ↦ absurd (last e (omega arith) v) ]
+    where
+      last : (e : ℕ) → n ≡ e → isAt l (mark t e) ≡ true → ⊥
+      last e g v = both-ways (isAt l (mark t n)) q (subst⁻¹ (λ e. isAt l (mark t e) ≡ true) g v)
+
+  pub told : (t : List Mark) (l y n : ℕ) → mark t y ≡ None → Told t l y n (scanned r t l n y)
+  unfolding Told scanned
+  told t l y zero q = subst⁻¹ (Told t l y 0) q (λ e w v b. absurd (omega arith))
+  told t l y (suc n) q = told-step t l y n (isAt l (mark t n)) refl (scanned r t l n y) (told t l y n q)
+
+  pub kept : (t : List Mark) (l y n : ℕ) (s : Bool) (z : State) (k : ℕ) → mark t y ≡ Mk s z k → scanned r t l n y ≡ Mk s z k
+  unfolding scanned
+  kept t l y zero s z k q = q
+  kept t l y (suc n) s z k q = by (isAt l (mark t n)) (scanned r t l n y) (kept t l y n s z k q)
+    where
+      by : (a : Bool) (p : Mark) → p ≡ Mk s z k → cond a (give r (stateOf n (mark t n)) (suc l) y p) p ≡ Mk s z k
+      by true p e = subst⁻¹ (λ p. give r (stateOf n (mark t n)) (suc l) y p ≡ Mk s z k) e refl
+      by false p e = e
+
+  -- the lane of a labelled state that is not the start
+  pub lane-of : (t : List Mark) (l : ℕ) (x : State) → Sits t (suc l) x → (isAt (suc l) (mark t (num x)) ≡ true) × (stateOf (num x) (mark t (num x)) ≡ x)
+  lane-of t l (Pole false) h = absurd (omega arith)
+  lane-of t l (Pole true) h = absurd h
+  lane-of t l (Plus e) h = (ap (isAt (suc l)) (h .1) ∙ eq-eqb (suc l) (suc l) refl, ap (stateOf e) (h .1))
+  lane-of t l (Minus e) h = (ap (isAt (suc l)) (h .1) ∙ eq-eqb (suc l) (suc l) refl, ap (stateOf e) (h .1))
+
+  num-signed : (s : Bool) (e : ℕ) → num (signed s e) ≡ e
+  num-signed true e = refl
+  num-signed false e = refl
+
+  pub state-sits : (t : List Mark) (l e : ℕ) → isAt l (mark t e) ≡ true → Sits t l (stateOf e (mark t e)) × (num (stateOf e (mark t e)) ≡ e)
+  state-sits t l e q = by (mark t e) refl q
+    where
+      by : (p : Mark) → mark t e ≡ p → isAt l p ≡ true → Sits t l (stateOf e p) × (num (stateOf e p) ≡ e)
+      by None o h = let z : _≡_ {A = ℕ} 0 1 = cc in absurd (omega arith)
+      by (Mk s z k) o h =
+          (sits-signed t l s e z (o ∙ ap (Mk s z) (eqb-true k l h)), num-signed s e)
+
+  start-is : (t : List Mark) (x : State) → ((y : ℕ) (s : Bool) (z : State) → mark t y ≡ Mk s z 0 → ⊥) → Sits t 0 x → x ≡ Pole false
+  start-is t (Pole false) h s = refl
+  start-is t (Pole true) h s = absurd s
+  start-is t (Plus e) h s = absurd (h e true (s .0) (s .1))
+  start-is t (Minus e) h s = absurd (h e false (s .0) (s .1))
+
+  pub listed-is : (h : ℕ → Mark) (m y : ℕ) → y < m → mark (listed h m 0) y ≡ h y
+  listed-is h m y l = listed-at h m 0 y l ∙ ap h (omega arith)
+
+  -- the scan of the lanes of a level
+  module _ (m l : ℕ) (t : List Mark) (off : (y : ℕ) → m ≤ y → mark t y ≡ None) where
+    below : (x : State) → Sits t (suc l) x → num x < m
+    below x s =
+        elim (cases-lt (num x) m) [
+          | inl h ↦ h
+          | inr h ↦ absurd (both-ways (isAt (suc l) (mark t (num x))) (ap (isAt (suc l)) (off (num x) (omega arith))) (lane-of t l x s .0))
+        ]
+
+    fresh-told : (y : ℕ) (s : Bool) (z : State) (k : ℕ) → Told t (suc l) y m (Mk s z k)
+        → (k ≡ suc (suc l)) × Sits t (suc l) z × (r z (signed s y) ≡ true)
+        × ((x : State) (b : Bool) → Sits t (suc l) x → r x (signed b y) ≡ true → num z ≤ num x)
+    unfolding Told
+    fresh-told y s z k h = by (h .0) (h .1) (h .2) (h .3) (h .4) (h .5) (h .6)
+      where
+        by : k ≡ suc (suc l) → (e : ℕ) → e < m → isAt (suc l) (mark t e) ≡ true → z ≡ stateOf e (mark t e) → r z (signed s y) ≡ true
+            → ((d : ℕ) → d < e → isAt (suc l) (mark t d) ≡ true → (b : Bool) → r (stateOf d (mark t d)) (signed b y) ≡ false)
+            → (k ≡ suc (suc l)) × Sits t (suc l) z × (r z (signed s y) ≡ true)
+            × ((x : State) (b : Bool) → Sits t (suc l) x → r x (signed b y) ≡ true → num z ≤ num x)
+        by a e b c q d g =
+            let st = state-sits t (suc l) e c in
+            let nz : num z ≡ e = ap num q ∙ st .1 in (
+              a,
+              subst⁻¹ (Sits t (suc l)) q (st .0),
+              d,
+              λ x bb sx rx.
+                  elim (cases-lt (num x) e) [
+                    | inl h ↦
+                        let o = lane-of t l x sx in
+                        absurd (both-ways (r x (signed bb y)) (subst (λ x. r x (signed bb y) ≡ false) (o .1) (g (num x) h (o .0) bb)) rx)
+                    | inr h ↦ omega arith
+                  ],
+            )
+
+    none-told : (y : ℕ) → Told t (suc l) y m None → (x : State) (b : Bool) → Sits t (suc l) x → r x (signed b y) ≡ true → ⊥
+    unfolding Told
+    none-told y h x b sx rx =
+        let o = lane-of t l x sx in
+        both-ways (r x (signed b y)) (subst (λ x. r x (signed b y) ≡ false) (o .1) (h (num x) (below x sx) (o .0) b)) rx
+
+    passed-suc : Passed r m (suc l) t (pass r m (suc l) t)
+    unfolding pass
+    passed-suc = record {
+      keeps = λ y s z k h q. listed-is (scanned r t (suc l) m) m y h ∙ kept t (suc l) y m s z k q;
+      fresh = λ y s z k h q o.
+          fresh-told y s z k (subst (Told t (suc l) y m) (sym (listed-is (scanned r t (suc l) m) m y h) ∙ o) (told t (suc l) y m q));
+      none = λ y h o.
+          elim (cases-mark (mark t y)) [
+            | inl q ↦ none-told y (subst (Told t (suc l) y m) (sym (listed-is (scanned r t (suc l) m) m y h) ∙ o) (told t (suc l) y m q))
+            | inr q ↦ absurd (none-mk (mark (listed (scanned r t (suc l) m) m 0) y) (q .0) (q .1) (q .2) o
+                (listed-is (scanned r t (suc l) m) m y h ∙ kept t (suc l) y m (q .0) (q .1) (q .2) (q .3)))
+          ];
+      off = λ y h. listed-off (scanned r t (suc l) m) m 0 y h;
+    }
+
+  -- the scan of the start
+  module _ (m : ℕ) where
+    given : ℕ → Mark
+    given y = give r (Pole false) 1 y (mark [] y)
+
+    Start : ℕ → Mark → Type 0
+    Start y None = (b : Bool) → r (Pole false) (signed b y) ≡ false
+    Start y (Mk s z k) = (k ≡ 1) × (z ≡ Pole false) × (r (Pole false) (signed s y) ≡ true)
+
+    start-told : (y : ℕ) → Start y (given y)
+    unfolding Start given mark
+    start-told y = by (r (Pole false) (Plus y)) (r (Pole false) (Minus y)) refl refl
+      where
+        by : (a c : Bool) → r (Pole false) (Plus y) ≡ a → r (Pole false) (Minus y) ≡ c → Start y (cond a (Mk true (Pole false) 1) (cond c (Mk false (Pole false) 1) None))
+        by true c p q = (refl, refl, p)
+        by false true p q = (refl, refl, q)
+        by false false p q = both
+          where
+            both : (b : Bool) → r (Pole false) (signed b y) ≡ false
+            both true = p
+            both false = q
+
+    mark-nil : (y : ℕ) → mark [] y ≡ None
+    unfolding mark
+    mark-nil y = refl
+
+    start-only : (x : State) → Sits [] 0 x → x ≡ Pole false
+    start-only x s = start-is [] x (λ y s z q. none-mk (mark [] y) s z 0 (mark-nil y) q) s
+
+    start-fresh : (y : ℕ) (s : Bool) (z : State) (k : ℕ) → Start y (Mk s z k)
+        → (k ≡ 1) × Sits [] 0 z × (r z (signed s y) ≡ true) × ((x : State) (b : Bool) → Sits [] 0 x → r x (signed b y) ≡ true → num z ≤ num x)
+    unfolding Start
+    start-fresh y s z k h = (
+      h .0,
+      subst⁻¹ (Sits [] 0) (h .1) refl,
+      subst⁻¹ (λ z. r z (signed s y) ≡ true) (h .1) (h .2),
+      λ x b sx rx. let q : num z ≡ 0 = ap num (h .1) in omega arith,
+    )
+
+    start-none : (y : ℕ) → Start y None → (x : State) (b : Bool) → Sits [] 0 x → r x (signed b y) ≡ true → ⊥
+    unfolding Start
+    start-none y h x b sx rx = both-ways (r (Pole false) (signed b y)) (h b) (subst (λ x. r x (signed b y) ≡ true) (start-only x sx) rx)
+
+    passed-zero : Passed r m 0 [] (pass r m 0 [])
+    unfolding pass given
+    passed-zero = record {
+      keeps = λ y s z k h q. none-mk (mark [] y) s z k (mark-nil y) q;
+      fresh = λ y s z k h q o. start-fresh y s z k (subst (Start y) (sym (listed-is given m y h) ∙ o) (start-told y));
+      none = λ y h o. start-none y (subst (Start y) (sym (listed-is given m y h) ∙ o) (start-told y));
+      off = λ y h. listed-off given m 0 y h;
+    }
+
+-- what holds of a table with the levels up to l
+pub record Good (r : State → State → Bool) (m l : ℕ) (t : List Mark) : Type 0 where
+  pub off : (y : ℕ) → m ≤ y → mark t y ≡ None
+  pub some : (y : ℕ) (s : Bool) (z : State) (k : ℕ) → mark t y ≡ Mk s z k → 0 < k
+  pub most : (y : ℕ) (s : Bool) (z : State) (k : ℕ) → mark t y ≡ Mk s z k → k ≤ l
+  pub by : (y : ℕ) (s : Bool) (z : State) (i : ℕ) → mark t y ≡ Mk s z (suc i) → r z (signed s y) ≡ true
+  pub up : (y : ℕ) (s : Bool) (z : State) (i : ℕ) → mark t y ≡ Mk s z (suc i) → Sits t i z
+  pub lowest : (y : ℕ) (s : Bool) (z : State) (i : ℕ) → mark t y ≡ Mk s z (suc i) → (x : State) (b : Bool) → Sits t i x → r x (signed b y) ≡ true → num z ≤ num x
+  pub all : (i : ℕ) (x : State) (y : ℕ) (b : Bool) → i < l → y < m → Sits t i x → r x (signed b y) ≡ true
+      → (s : Bool) × (z : State) × (k : ℕ) × (k ≤ suc i) × (mark t y ≡ Mk s z k)
+
+module _ (r : State → State → Bool) (m : ℕ) where
+  module _ (l : ℕ) (t u : List Mark) (g : Good r m l t) (p : Passed r m l t u) where
+    lane-below : (v : List Mark) → ((y : ℕ) → m ≤ y → mark v y ≡ None) → (y : ℕ) (s : Bool) (z : State) (k : ℕ) → mark v y ≡ Mk s z k → y < m
+    lane-below v o y s z k q = elim (cases-lt y m) [ inl h ↦ h | inr h ↦ none-mk (mark v y) s z k (o y (omega arith)) q ]
+
+    on : (y : ℕ) (s : Bool) (z : State) (k : ℕ) → mark t y ≡ Mk s z k → mark u y ≡ Mk s z k
+    on y s z k q = p .keeps y s z k (lane-below t (g .off) y s z k q) q
+
+    -- a label is an old one or a fresh one
+    which : (y : ℕ) (s : Bool) (z : State) (k : ℕ) → mark u y ≡ Mk s z k → (mark t y ≡ Mk s z k) ⊎ ((y < m) × (mark t y ≡ None))
+    which y s z k q =
+        elim (cases-mark (mark t y)) [
+          | inl o ↦ inr (lane-below u (p .off) y s z k q, o)
+          | inr o ↦ inl (o .3 ∙ sym (on y (o .0) (o .1) (o .2) (o .3)) ∙ q)
+        ]
+
+    back-at : (y : ℕ) (s : Bool) (z : State) (k : ℕ) → k ≤ l → mark u y ≡ Mk s z k → mark t y ≡ Mk s z k
+    back-at y s z k h q =
+        elim (which y s z k q) [
+          | inl o ↦ o
+          | inr o ↦ absurd (omega (arith, p .fresh y s z k (o .0) (o .1) q .0))
+        ]
+
+    sits-on : (i : ℕ) (x : State) → Sits t i x → Sits u i x
+    sits-on i (Pole false) s = s
+    sits-on i (Pole true) s = s
+    sits-on i (Plus e) s = (s .0, on e true (s .0) i (s .1))
+    sits-on i (Minus e) s = (s .0, on e false (s .0) i (s .1))
+
+    sits-back : (i : ℕ) (x : State) → i ≤ l → Sits u i x → Sits t i x
+    sits-back i (Pole false) h s = s
+    sits-back i (Pole true) h s = s
+    sits-back i (Plus e) h s = (s .0, back-at e true (s .0) i h (s .1))
+    sits-back i (Minus e) h s = (s .0, back-at e false (s .0) i h (s .1))
+
+    next-most : (y : ℕ) (s : Bool) (z : State) (k : ℕ) → mark u y ≡ Mk s z k → k ≤ suc l
+    next-most y s z k q =
+        elim (which y s z k q) [
+          | inl o ↦ omega (arith, g .most y s z k o)
+          | inr o ↦ omega (arith, p .fresh y s z k (o .0) (o .1) q .0)
+        ]
+
+    next-up : (y : ℕ) (s : Bool) (z : State) (i : ℕ) → mark u y ≡ Mk s z (suc i) → Sits u i z
+    next-up y s z i q =
+        elim (which y s z (suc i) q) [
+          | inl o ↦ sits-on i z (g .up y s z i o)
+          | inr o ↦
+              let a = p .fresh y s z (suc i) (o .0) (o .1) q in
+              sits-on i z (subst (λ j. Sits t j z) (omega (arith, a .0)) (a .1))
+        ]
+
+    next-lowest : (y : ℕ) (s : Bool) (z : State) (i : ℕ) → mark u y ≡ Mk s z (suc i) → (x : State) (b : Bool) → Sits u i x → r x (signed b y) ≡ true → num z ≤ num x
+    next-lowest y s z i q x b sx rx =
+        elim (which y s z (suc i) q) [
+          | inl o ↦ g .lowest y s z i o x b (sits-back i x (omega (arith, g .most y s z (suc i) o)) sx) rx
+          | inr o ↦
+              let a = p .fresh y s z (suc i) (o .0) (o .1) q in
+              let il : i ≡ l = omega (arith, a .0) in
+              a .3 x b (subst (λ j. Sits t j x) il (sits-back i x (omega arith) sx)) rx
+        ]
+
+    next-all : (i : ℕ) (x : State) (y : ℕ) (b : Bool) → i < suc l → y < m → Sits u i x → r x (signed b y) ≡ true
+        → (s : Bool) × (z : State) × (k : ℕ) × (k ≤ suc i) × (mark u y ≡ Mk s z k)
+    next-all i x y b h ym sx rx =
+        elim (cases-lt i l) [
+          | inl il ↦
+              let a = g .all i x y b il ym (sits-back i x (omega arith) sx) rx in
+              (a .0, a .1, a .2, a .3, on y (a .0) (a .1) (a .2) (a .4))
+          | inr il ↦
+              elim (cases-mark (mark u y)) [
+                | inl o ↦
+                    let e : i ≡ l = omega arith in
+                    absurd (p .none y ym o x b (subst (λ j. Sits t j x) e (sits-back i x (omega arith) sx)) rx)
+                | inr o ↦ (o .0, o .1, o .2, omega (arith, next-most y (o .0) (o .1) (o .2) (o .3)), o .3)
+              ]
+        ]
+
+    good-next : Good r m (suc l) u
+    good-next = record {
+      off = p .off;
+      some = λ y s z k q.
+          elim (which y s z k q) [
+            | inl o ↦ g .some y s z k o
+            | inr o ↦ omega (arith, p .fresh y s z k (o .0) (o .1) q .0)
+          ];
+      most = next-most;
+      by = λ y s z i q.
+          elim (which y s z (suc i) q) [
+            | inl o ↦ g .by y s z i o
+            | inr o ↦ p .fresh y s z (suc i) (o .0) (o .1) q .2
+          ];
+      up = next-up;
+      lowest = next-lowest;
+      all = next-all;
+    }
+
+  good-nil : Good r m 0 []
+  unfolding mark
+  good-nil = record {
+    off = λ y h. refl;
+    some = λ y s z k q. none-mk None s z k refl q;
+    most = λ y s z k q. none-mk None s z k refl q;
+    by = λ y s z i q. none-mk None s z (suc i) refl q;
+    up = λ y s z i q. none-mk None s z (suc i) refl q;
+    lowest = λ y s z i q. none-mk None s z (suc i) refl q;
+    all = λ i x y b h. absurd (omega arith);
+  }
+
+  pub good-tab : (l : ℕ) → Good r m l (tab r m l)
+  unfolding tab
+  good-tab zero = good-nil
+  good-tab (suc zero) = good-next 0 [] (pass r m 0 []) good-nil (passed-zero r m)
+  good-tab (suc (suc l)) =
+      good-next (suc l) (tab r m (suc l)) (pass r m (suc l) (tab r m (suc l))) (good-tab (suc l)) (passed-suc r m l (tab r m (suc l)) (good-tab (suc l) .off))
+
+  pub passed-tab : (l : ℕ) → Passed r m l (tab r m l) (tab r m (suc l))
+  unfolding tab
+  passed-tab zero = passed-zero r m
+  passed-tab (suc l) = passed-suc r m l (tab r m (suc l)) (good-tab (suc l) .off)
+
+  -- a label of level j is in the table of level j, and stays
+  pub sits-down : (l j : ℕ) (x : State) → j ≤ l → Sits (tab r m l) j x → Sits (tab r m j) j x
+  sits-down zero j x h s = let e : 0 ≡ j = omega arith in subst (λ k. Sits (tab r m k) j x) e s
+  sits-down (suc l) j x h s =
+      elim (cases-lt j (suc l)) [
+        | inl q ↦ sits-down l j x (omega arith) (sits-back l (tab r m l) (tab r m (suc l)) (good-tab l) (passed-tab l) j x (omega arith) s)
+        | inr q ↦ let e : suc l ≡ j = omega arith in subst (λ k. Sits (tab r m k) j x) e s
+      ]
+
+  pub mark-up : (l j y : ℕ) (s : Bool) (z : State) (k : ℕ) → j ≤ l → mark (tab r m j) y ≡ Mk s z k → mark (tab r m l) y ≡ Mk s z k
+  mark-up zero j y s z k h q = let e : j ≡ 0 = omega arith in subst (λ i. mark (tab r m i) y ≡ Mk s z k) e q
+  mark-up (suc l) j y s z k h q =
+      elim (cases-lt j (suc l)) [
+        | inl o ↦ on l (tab r m l) (tab r m (suc l)) (good-tab l) (passed-tab l) y s z k (mark-up l j y s z k (omega arith) q)
+        | inr o ↦ let e : j ≡ suc l = omega arith in subst (λ i. mark (tab r m i) y ≡ Mk s z k) e q
+      ]

@@ -1,0 +1,55 @@
+-- Which label a scanned lane gives, in the words of the rules: rooms, and smallest tight sets.
+use mathlib.Core.Path.{_≡_}
+use mathlib.Core.Bool.{Bool, true, false, cond, not, _&&_}
+use Prim.Native.Nat.{ℕ, _≤_, _<_}
+use lib.Dec.{eqb, ltb}
+use Rattle.polymatroid.specs.Sets.{has}
+use Rattle.polymatroid.specs.Side.{room, tightSet}
+use Rattle.floor.specs.Floor.{place, count}
+use Rattle.floor.specs.Meaning.{Meaning, Lawful}
+use Rattle.network.specs.Trays.{trays}
+use Rattle.network.specs.States.{State, Pole, Plus, Minus, Ok}
+use Rattle.network.specs.Feasible.{Fits}
+use Rattle.network.specs.Labelling.{Gives}
+
+-- lane e is full at its end d: the least that is left below the cap of a set with e is 0
+unfoldable pub full : Meaning → (ℕ → ℕ) → Bool → ℕ → Bool
+full M f d e =
+    eqb (room (count (M .floor) d (M .floor .end d e)) (M .cap d (M .floor .end d e)) (trays M f d (M .floor .end d e)) (place (M .floor) d (M .floor .end d e) e)) 0
+
+-- lane g is in the smallest tight set of lane e, at the end d of e
+unfoldable pub inTight : Meaning → (ℕ → ℕ) → Bool → ℕ → ℕ → Bool
+inTight M f d e g =
+    has (tightSet (count (M .floor) d (M .floor .end d e)) (M .cap d (M .floor .end d e)) (trays M f d (M .floor .end d e)) (place (M .floor) d (M .floor .end d e) e)) (place (M .floor) d (M .floor .end d e) g)
+
+-- x, being scanned, gives its label to y. The start stands for level 1, the end for the end of a path.
+-- A lane gives nothing to itself: it has its label.
+unfoldable pub ruled : Meaning → (ℕ → ℕ) → State → State → Bool
+ruled M f (Pole b) (Pole c) = false
+ruled M f (Pole false) (Plus g) = eqb (M .floor .pole false) (M .floor .end false g) && not (full M f false g)
+ruled M f (Pole true) (Plus g) = false
+ruled M f (Pole b) (Minus g) = false
+ruled M f (Plus e) (Pole false) = false
+ruled M f (Plus e) (Pole true) = eqb (M .floor .end true e) (M .floor .pole true) && not (full M f true e)
+-- a + lane not full opens the station that it enters
+ruled M f (Plus e) (Plus g) = eqb (M .floor .end true e) (M .floor .end false g) && (not (full M f true e) && not (full M f false g))
+-- a full + lane gives - to its tight set
+ruled M f (Plus e) (Minus g) =
+    eqb (M .floor .end true e) (M .floor .end true g) && (not (eqb e g) && cond (full M f true e) (inTight M f true e g) (ltb 0 (f g)))
+ruled M f (Minus e) (Pole c) = false
+-- each - lane opens the station that it leaves; one that is full gives + to the lanes whose tight set contains it
+ruled M f (Minus e) (Plus g) =
+    eqb (M .floor .end false e) (M .floor .end false g) && (not (eqb e g) && cond (full M f false g) (full M f false e && inTight M f false g e) true)
+ruled M f (Minus e) (Minus g) = eqb (M .floor .end false e) (M .floor .end true g) && ltb 0 (f g)
+
+-- a - lane carries trays
+abbrev pub Carries : (ℕ → ℕ) → State → Type 0
+Carries f (Pole b) = Unit {0}
+Carries f (Plus e) = Unit {0}
+Carries f (Minus e) = 0 < f e
+
+-- the rules give where the pair lets an amount through, and nowhere else
+abbrev pub Rules-give : Type 0
+Rules-give =
+    (M : Meaning) (f : ℕ → ℕ) → Lawful M → Fits M f → (x y : State) → Ok M x → Ok M y → Carries f x
+    → (ruled M f x y ≡ true → Gives M f x y × Carries f y) × (Gives M f x y → ruled M f x y ≡ true)

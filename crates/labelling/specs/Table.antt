@@ -1,0 +1,123 @@
+-- The table of labels, level by level.
+use mathlib.Core.Path.{_≡_}
+use mathlib.Core.Bool.{Bool, true, false, cond, not, _&&_, _||_}
+use mathlib.Core.List.{List, [], _∷_}
+use Prim.Native.Nat.{ℕ, zero, suc, _+_, _-_, _≤_, _<_}
+use lib.Dec.{eqb, ltb}
+use lib.ListN.{getD}
+use Rattle.polymatroid.specs.Finite.{first, least}
+use Rattle.network.specs.States.{State, Pole, Plus, Minus}
+
+-- a lane's label: its sign (true is +), the state that was scanned when it was given, its level
+pub data Mark : Type 0 where
+  None : Mark
+  Mk : Bool → State → ℕ → Mark
+
+abbrev pub signed : Bool → ℕ → State
+signed true e = Plus e
+signed false e = Minus e
+
+-- the label of lane e
+unfoldable pub mark : List Mark → ℕ → Mark
+mark t e = getD t e None
+
+-- a label of level l
+abbrev pub isAt : ℕ → Mark → Bool
+isAt l None = false
+isAt l (Mk s x k) = eqb k l
+
+-- lane e with the sign of its label
+abbrev pub stateOf : ℕ → Mark → State
+stateOf e None = Pole true
+stateOf e (Mk s x k) = signed s e
+
+-- the label of lane y after x has been scanned: a lane that has one keeps it
+abbrev pub give : (State → State → Bool) → State → ℕ → ℕ → Mark → Mark
+give r x l y None = cond (r x (Plus y)) (Mk true x l) (cond (r x (Minus y)) (Mk false x l) None)
+give r x l y (Mk s z k) = Mk s z k
+
+-- the label of lane y after those lanes below n that are of level l have been scanned in their order
+unfoldable pub scanned : (State → State → Bool) → List Mark → ℕ → ℕ → ℕ → Mark
+scanned r t l zero y = mark t y
+scanned r t l (suc e) y =
+    cond (isAt l (mark t e)) (give r (stateOf e (mark t e)) (suc l) y (scanned r t l e y)) (scanned r t l e y)
+
+-- the list of h at k, k + 1, .., n of them
+unfoldable pub listed : (ℕ → Mark) → ℕ → ℕ → List Mark
+listed h zero k = []
+listed h (suc n) k = h k ∷ listed h n (suc k)
+
+-- the table after the scan of level l; level 0 is the start
+unfoldable pub pass : (State → State → Bool) → ℕ → ℕ → List Mark → List Mark
+pass r m zero t = listed (λ y. give r (Pole false) 1 y (mark t y)) m 0
+pass r m (suc l) t = listed (scanned r t (suc l) m) m 0
+
+-- the table with the levels up to l
+unfoldable pub tab : (State → State → Bool) → ℕ → ℕ → List Mark
+tab r m zero = []
+tab r m (suc l) = pass r m l (tab r m l)
+
+-- the lowest lane of level l that ends a path, or m
+unfoldable pub ender : (State → State → Bool) → ℕ → ℕ → List Mark → ℕ
+ender r m l t = first (λ e. isAt l (mark t e) && r (stateOf e (mark t e)) (Pole true)) m
+
+-- a lane of level l, or m
+unfoldable pub some-at : ℕ → ℕ → List Mark → ℕ
+some-at m l t = first (λ e. isAt l (mark t e)) m
+
+-- how a labelling comes out: with a path of l lanes that ends in lane e, or finished
+pub data Outcome : Type 0 where
+  Ended : ℕ → ℕ → List Mark → Outcome
+  Finished : List Mark → Outcome
+
+-- after level l: a path, or an empty level, or the next level
+unfoldable pub go : (State → State → Bool) → ℕ → ℕ → ℕ → List Mark → Outcome
+go r m zero l t = Finished t
+go r m (suc n) l t =
+    cond (ltb (ender r m l t) m) (Ended l (ender r m l t) t) (cond (ltb (some-at m l t) m) (go r m n (suc l) (pass r m l t)) (Finished t))
+
+unfoldable pub label : (State → State → Bool) → ℕ → Outcome
+label r m = go r m (suc m) 1 (tab r m 1)
+
+-- the state before x, by the names; the end's name is the lane that ends the path
+abbrev pub nameOf : Mark → State
+nameOf None = Pole false
+nameOf (Mk s x k) = x
+
+unfoldable pub name : ℕ → List Mark → State → State
+name e t (Pole false) = Pole false
+name e t (Pole true) = stateOf e (mark t e)
+name e t (Plus g) = nameOf (mark t g)
+name e t (Minus g) = nameOf (mark t g)
+
+-- the path read back from the end: k states before it
+unfoldable pub back : ℕ → List Mark → ℕ → State
+back e t zero = Pole true
+back e t (suc k) = name e t (back e t k)
+
+-- the states of a path of l lanes, the start and the end with it
+unfoldable pub path : ℕ → ℕ → List Mark → ℕ → State
+path l e t i = back e t (suc l - i)
+
+-- the state has its label at level i
+abbrev pub Sits : List Mark → ℕ → State → Type 0
+Sits t i (Pole false) = i ≡ 0
+Sits t i (Pole true) = ⊥
+Sits t i (Plus e) = (z : State) × (mark t e ≡ Mk true z i)
+Sits t i (Minus e) = (z : State) × (mark t e ≡ Mk false z i)
+
+-- the same with the end after the l lanes of a path
+abbrev pub SitsEnd : ℕ → List Mark → ℕ → State → Type 0
+SitsEnd l t i (Pole false) = i ≡ 0
+SitsEnd l t i (Pole true) = i ≡ suc l
+SitsEnd l t i (Plus e) = (z : State) × (mark t e ≡ Mk true z i)
+SitsEnd l t i (Minus e) = (z : State) × (mark t e ≡ Mk false z i)
+
+-- the lanes with + and those with -
+abbrev pub isPlus : Mark → Bool
+isPlus None = false
+isPlus (Mk s x k) = s
+
+abbrev pub isMinus : Mark → Bool
+isMinus None = false
+isMinus (Mk s x k) = not s

@@ -9,8 +9,7 @@ use lib.Dec.{eqb, ltb}
 use Rattle.std.proofs.shelf.Tests.{cases-lt, cases-bool, cases-eq, both-ways, eqb-true, eq-eqb, ltb-true, ltb-false, and-parts, and-from}
 use Rattle.polymatroid.specs.Finite.{first}
 use Rattle.polymatroid.proofs.Finite.{first-le, first-passes, first-before}
-use Rattle.levels.specs.Counting.{Apart}
-use Rattle.levels.proofs.Counting.{pigeonhole}
+use Rattle.levels.proofs.Counting.{pigeonhole-all}
 use Rattle.network.specs.States.{State, Pole, Plus, Minus}
 use Rattle.network.specs.Stages.{num}
 use Rattle.labelling.specs.Table.{Mark, None, Mk, signed, mark, isAt, stateOf, pass, tab, ender, some-at, Outcome, Ended, Finished, go, label, Sits}
@@ -103,7 +102,7 @@ module _ (r : State → State → Bool) (m : ℕ) where
 
   few : (l : ℕ) → Lanes l → l ≤ m
   unfolding Lanes
-  few l h = pigeonhole l m (λ j. some-at m (suc j) (tab r m (suc j))) (record { below = h; differ = differ })
+  few l h = pigeonhole-all (λ j. some-at m (suc j) (tab r m (suc j))) l m h differ
     where
       differ : (i j : ℕ) → i < j → j < l → some-at m (suc i) (tab r m (suc i)) ≡ some-at m (suc j) (tab r m (suc j)) → ⊥
       differ i j a b q =

@@ -1,11 +1,13 @@
--- Levels rise when the relation changes by splicing.
-use mathlib.Core.Path.{_≡_, refl, sym, ap, subst, _∙_}
+-- Levels rise when the relation changes by splicing, counted from the first state of the path or from the last,
+-- and where a level stays, the lowest numbers before it do not fall.
+use mathlib.Core.Path.{_≡_, refl, sym, ap, subst, subst⁻¹, _∙_}
 use mathlib.Core.Logic.{inl, inr, _⊎_}
 use Prim.Native.Nat.{ℕ, zero, suc, _+_, _-_, _*_, _≤_, _<_}
 use native.Mathlib.Omega.{arith}
-use Rattle.levels.specs.Levels.{Walk, Level, Straight, Splices, Lowest, Levels-rise, Numbers-rise}
+use Rattle.levels.proofs.Walks.{join-walk, rest-walk, turned-walk}
+use Rattle.levels.specs.Levels.{Walk, Level, Straight, Along, Splices, Lowest, Levels-rise-in, Levels-rise-back-in, Numbers-rise-in}
 
-pub levels-rise : Levels-rise
+pub levels-rise : (X : Type 0) → Levels-rise-in X
 levels-rise X R Q P N on splice zero y h = (0, omega arith, h)
 levels-rise X R Q P N on splice (suc n) y h =
     let x : X = h .0 in
@@ -25,7 +27,7 @@ lower R s x y a m l r w h =
     let e : m ≡ a = omega (arith, l .shortest (suc m) (x, w, r)) in
     record { walk = rw e at w; shortest = λ q v. omega (arith, l .shortest (suc q) (x, v, r)) }
 
-pub numbers-rise : Numbers-rise
+pub numbers-rise : (X : Type 0) → Numbers-rise-in X
 numbers-rise X num R Q P N on splice low a x y ly qy qx q =
     elim (splice x y q) [
       | inl r ↦ (x, lower R (P 0) x y a (w .0) ly r (w .2) (w .1), r, omega arith)
@@ -48,3 +50,43 @@ numbers-rise X num R Q P N on splice low a x y ly qy qx q =
         let f2 = ly .shortest (suc i) (P i, on i (omega arith) .walk, ry) in
         let e : j ≡ suc i = omega (arith, w .1) in
         here i (omega (arith, w .1)) (omega arith) (rw e at rx) ry
+
+-- ---- the same from the last state: the relations turned round, and the path read backwards
+
+module _ {X : Type 0} (R Q : X → X → Type 0) (P : ℕ → X) (N : ℕ) where
+  back : ℕ → X
+  back i = P (N - i)
+
+  straight-back : Straight R P N → Along R P N → Straight (λ x y. R y x) back N
+  unfolding back
+  straight-back on along i l = record {
+    walk = turned-walk R (P (N - i)) (P (N - 0)) i (subst (Walk R (P (N - i)) i) (ap P (omega arith)) (rest-walk R P N along i (N - i) (omega arith)));
+    shortest = λ k w.
+        let rest : Walk R (P (N - i)) k (P N) = subst (Walk R (P (N - i)) k) (ap P (omega arith)) (turned-walk (λ x y. R y x) (P (N - 0)) (P (N - i)) k w) in
+        omega (
+          arith,
+          on N (omega arith) .shortest (N - i + k) (join-walk R (P 0) (P (N - i)) (P N) (N - i) k (on (N - i) (omega arith) .walk) rest),
+        );
+  }
+
+  splices-back : Splices R Q P N → Splices (λ x y. R y x) (λ x y. Q y x) back N
+  unfolding back
+  splices-back splice x y q =
+      elim (splice y x q) [
+        | inl r ↦ inl r
+        | inr c ↦ by (c .0) (c .1) (c .2) (c .3) (c .4) (c .5)
+      ]
+    where
+      by : (i j : ℕ) → i < j → j ≤ N → R y (P j) → R (P i) x → R y x ⊎ ((i j : ℕ) × (i < j) × (j ≤ N) × R (P (N - j)) x × R y (P (N - i)))
+      by i j l h ry rx =
+          let ei : i ≡ N - (N - i) = omega arith in
+          let ej : j ≡ N - (N - j) = omega arith in
+          inr (N - j, N - i, omega arith, omega arith, subst (λ k. R (P k) x) ei rx, subst (λ k. R y (P k)) ej ry)
+
+pub levels-rise-back : (X : Type 0) → Levels-rise-back-in X
+unfolding back
+levels-rise-back X R Q P N on along splice n x w =
+    let last : P (N - 0) ≡ P N = ap P (omega arith) in
+    let a = levels-rise X (λ x y. R y x) (λ x y. Q y x) (back R Q P N) N (straight-back R Q P N on along) (splices-back R Q P N splice) n x
+    (turned-walk Q x (P (N - 0)) n (subst⁻¹ (Walk Q x n) last w)) in
+    (a .0, a .1, subst (Walk R x (a .0)) last (turned-walk (λ x y. R y x) (P (N - 0)) x (a .0) (a .2)))

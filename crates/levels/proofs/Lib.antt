@@ -1,3 +1,4 @@
+pub mod Walks
 pub mod Levels
 pub mod Search
 pub mod Counting

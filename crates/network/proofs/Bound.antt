@@ -6,12 +6,12 @@ use Prim.Native.Nat.{ℕ, zero, suc, _+_, _-_, _*_, _/_, _%_, _≤_, _<_}
 use native.Mathlib.Omega.{arith}
 use Rattle.std.proofs.shelf.Tests.{cases-lt, cases-eq, both-ways, eq-eqb}
 use Rattle.std.proofs.shelf.Bits.{mul-add-lt, div-mul-add, mod-mul-add}
-use Rattle.levels.specs.Counting.{Apart, Moves}
-use Rattle.levels.proofs.Counting.{pigeonhole, few-moves}
+use Rattle.levels.specs.Counting.{Moves}
+use Rattle.levels.proofs.Counting.{pigeonhole-all, few-at-one-length, few-in-all}
 use Rattle.floor.specs.Meaning.{Meaning, Lawful}
 use Rattle.network.specs.States.{State, Pole, Plus, Minus, at, amount, Ok, Turn, Step, Path}
 use Rattle.network.specs.Moves.{Moving}
-use Rattle.network.specs.Stages.{num, Stage, Run, Few-stages}
+use Rattle.network.specs.Stages.{num, Stage, Run, Few-share-a-length, Few-stages}
 use Rattle.network.proofs.Paths.{touches, touch-once}
 use Rattle.network.proofs.Stages.{pairs-differ}
 
@@ -39,7 +39,7 @@ lane-state M f P N path i l = by (P (suc i)) refl
 
 -- a path has at least one lane, and each lane at most once
 path-lanes : (M : Meaning) (f : ℕ → ℕ) (P : ℕ → State) (N : ℕ) → Path M f P N → (1 < N) × (N - 1 ≤ M .floor .lanes)
-path-lanes M f P N path = (many N path, pigeonhole (N - 1) (M .floor .lanes) (λ i. num (P (suc i))) (record { below = below; differ = differ }))
+path-lanes M f P N path = (many N path, pigeonhole-all (λ i. num (P (suc i))) (N - 1) (M .floor .lanes) below differ)
   where
     many : (N : ℕ) → Path M f P N → 1 < N
     many zero path = let a = path .begin in let b = path .finish in let z : _≡_ {A = ℕ} 0 1 = cc in absurd (omega arith)
@@ -247,14 +247,19 @@ module _ (M : Meaning) (T : ℕ) (r : Run M T) where
       let n2 = path-lanes M (r .trays t) (r .path t) (r .length t) (gt .moving .path) .0 in
       pairs-differ M T r s t l m (omega arith) (p .0) (p .1)
 
+  counted : Moves (λ s. r .length s - 1) mark-at T (M .floor .lanes) (2 * (M .floor .lanes * M .floor .lanes))
+  unfolding mark-at
+  counted = record {
+    some = λ s l. omega (arith, path-lanes M (r .trays s) (r .path s) (r .length s) (r .stage s l .moving .path) .0);
+    most = λ s l. path-lanes M (r .trays s) (r .path s) (r .length s) (r .stage s l .moving .path) .1;
+    below = λ s l.
+        let a = low M (X s) (Y s) (kind-at s l) in
+        mark-low (M .floor .lanes) (sgn (X s) (Y s)) (lane (X s) (Y s)) (then (X s) (Y s)) (a .0) (a .1) (a .2);
+    differ = differs;
+  }
+
+pub few-share-a-length : Few-share-a-length
+few-share-a-length M T r l = few-at-one-length (λ s. r .length s - 1) (mark-at M T r) T (M .floor .lanes) (2 * (M .floor .lanes * M .floor .lanes)) (counted M T r) l
+
 pub few-stages : Few-stages
-unfolding mark-at
-few-stages M T r =
-    few-moves (λ s. r .length s - 1) (mark-at M T r) T (M .floor .lanes) (2 * (M .floor .lanes * M .floor .lanes)) (record {
-      some = λ s l. omega (arith, path-lanes M (r .trays s) (r .path s) (r .length s) (r .stage s l .moving .path) .0);
-      most = λ s l. path-lanes M (r .trays s) (r .path s) (r .length s) (r .stage s l .moving .path) .1;
-      below = λ s l.
-          let a = low M (X M T r s) (Y M T r s) (kind-at M T r s l) in
-          mark-low (M .floor .lanes) (sgn (X M T r s) (Y M T r s)) (lane (X M T r s) (Y M T r s)) (then (X M T r s) (Y M T r s)) (a .0) (a .1) (a .2);
-      differ = differs M T r;
-    })
+few-stages M T r = few-in-all (λ s. r .length s - 1) (mark-at M T r) T (M .floor .lanes) (2 * (M .floor .lanes * M .floor .lanes)) (counted M T r)

@@ -8,7 +8,6 @@ pub mod Mirror
 pub mod Moves
 pub mod Balance
 pub mod Splice
-pub mod Walks
 pub mod Stages
 pub mod Bound
 pub mod Skips

@@ -5,17 +5,16 @@ use mathlib.Core.Logic.{inl, inr, _⊎_}
 use Prim.Native.Nat.{ℕ, zero, suc, _+_, _-_, _*_, _≤_, _<_}
 use native.Mathlib.Omega.{arith}
 use Rattle.std.proofs.shelf.Tests.{cases-lt, cases-eq}
-use Rattle.levels.specs.Levels.{Walk, Level, Straight, Splices, Lowest}
-use Rattle.levels.proofs.Levels.{levels-rise, numbers-rise}
+use Rattle.levels.specs.Levels.{Walk, Level, Straight, Along, Splices, Lowest}
+use Rattle.levels.proofs.Walks.{join-walk, rest-walk, turned-walk}
+use Rattle.levels.proofs.Levels.{levels-rise, levels-rise-back, numbers-rise}
 use Rattle.floor.specs.Meaning.{Meaning, Lawful}
 use Rattle.network.specs.States.{State, Pole, Plus, Minus, at, amount, Turn, Step, Path, walked}
 use Rattle.network.specs.Moves.{Moving}
 use Rattle.network.specs.Stages.{num, Stage, Run, Lengths-rise, Pairs-differ}
 use Rattle.network.proofs.Paths.{step-at, out-of-end}
-use Rattle.network.proofs.Mirror.{mirror, mir, back, path-mirror}
-use Rattle.network.proofs.Moves.{moving-mirror, walked-mirror, pair-dies}
+use Rattle.network.proofs.Moves.{pair-dies}
 use Rattle.network.proofs.Splice.{steps-splice}
-use Rattle.network.proofs.Walks.{straight-mirror}
 
 -- relations one after the other, each of which shortens no walk from z
 module _ {X : Type 0} (R : ℕ → X → X → Type 0) (z : X) (T : ℕ)
@@ -47,9 +46,6 @@ module _ (M : Meaning) (T : ℕ) (r : Run M T) where
   R : ℕ → State → State → Type 0
   R s x y = Step M (r .trays s) x y
 
-  Mir : ℕ → State → State → Type 0
-  Mir s x y = Step (mirror M) (r .trays s) x y
-
   -- each path begins at the start
   starts : (s : ℕ) → s < T → r .path s 0 ≡ Pole false
   starts s l = r .stage s l .moving .path .begin
@@ -60,6 +56,10 @@ module _ (M : Meaning) (T : ℕ) (r : Run M T) where
       steps-splice M (r .trays s) (r .path s) (r .length s) (r .amt s) (r .stage s (omega arith) .moving) x y
       (subst (λ f. Step M f x y) (r .next s l) q)
 
+  straight-on : (s : ℕ) → s < T → Straight (R s) (r .path s) (r .length s)
+  unfolding R
+  straight-on s l = r .stage s l .straight
+
   one-on : (s : ℕ) → suc s < T → (a : ℕ) (y : State) → Walk (R (suc s)) (Pole false) a y → (b : ℕ) × (b ≤ a) × Walk (R s) (Pole false) b y
   unfolding R
   one-on s l a y w =
@@ -68,32 +68,24 @@ module _ (M : Meaning) (T : ℕ) (r : Run M T) where
       (subst⁻¹ (λ z. Walk (R (suc s)) z a y) st w) in
       (v .0, v .1, subst (λ z. Walk (R s) z (v .0) y) st (v .2))
 
-  mirror-on : (s : ℕ) → suc s < T → (a : ℕ) (y : State) → Walk (Mir (suc s)) (Pole false) a y → (b : ℕ) × (b ≤ a) × Walk (Mir s) (Pole false) b y
-  unfolding Mir
-  mirror-on s l a y w =
+  along : (s : ℕ) → s < T → Along (R s) (r .path s) (r .length s)
+  unfolding R
+  along s l i h = step-at M (r .trays s) (r .path s) (r .length s) (r .stage s l .moving .path) i h
+
+  -- the same of the walks to the end, as walks of the relation turned round
+  one-back : (s : ℕ) → suc s < T → (a : ℕ) (x : State) → Walk (λ x y. R (suc s) y x) (Pole true) a x
+      → (b : ℕ) × (b ≤ a) × Walk (λ x y. R s y x) (Pole true) b x
+  one-back s l a x w =
       let g = r .stage s (omega arith) in
-      let c = moving-mirror M (r .trays s) (r .path s) (r .length s) (r .amt s) (g .moving) in
-      let st = c .path .begin in
-      let sp : Splices (Mir s) (Mir (suc s)) (back (r .path s) (r .length s)) (r .length s) =
-      λ x y q. steps-splice (mirror M) (r .trays s) (back (r .path s) (r .length s)) (r .length s) (r .amt s) c x y
-      (subst (λ f. Step (mirror M) f x y)
-      (r .next s l ∙ sym (walked-mirror M (r .trays s) (r .path s) (r .length s) (r .amt s) (g .moving))) q) in
-      let v = levels-rise State (Mir s) (Mir (suc s)) (back (r .path s) (r .length s)) (r .length s)
-      (straight-mirror M (r .trays s) (r .path s) (r .length s) (g .moving .path) (g .straight)) sp a y
-      (subst⁻¹ (λ z. Walk (Mir (suc s)) z a y) st w) in
-      (v .0, v .1, subst (λ z. Walk (Mir s) z (v .0) y) st (v .2))
+      let fin = g .moving .path .finish in
+      let v = levels-rise-back State (R s) (R (suc s)) (r .path s) (r .length s) (straight-on s (omega arith)) (along s (omega arith)) (splices s l) a x
+      (subst⁻¹ (Walk (R (suc s)) x a) fin (turned-walk (λ x y. R (suc s) y x) (Pole true) x a w)) in
+      (v .0, v .1, turned-walk (R s) x (Pole true) (v .0) (subst (Walk (R s) x (v .0)) fin (v .2)))
 
   -- a state of a path at its level, from the start
   level-at : (s : ℕ) → s < T → (i : ℕ) → i ≤ r .length s → Level (R s) (Pole false) i (r .path s i)
   unfolding R
   level-at s l i m = subst (λ z. Level (R s) z i (r .path s i)) (starts s l) (r .stage s l .straight i m)
-
-  mirror-at : (s : ℕ) → s < T → (i : ℕ) → i ≤ r .length s → Level (Mir s) (Pole false) i (back (r .path s) (r .length s) i)
-  unfolding Mir
-  mirror-at s l i m =
-      let g = r .stage s l in
-      subst (λ z. Level (Mir s) z i (back (r .path s) (r .length s) i)) (path-mirror M (r .trays s) (r .path s) (r .length s) (g .moving .path) .begin)
-      (straight-mirror M (r .trays s) (r .path s) (r .length s) (g .moving .path) (g .straight) i m)
 
   longer : (s t : ℕ) → s ≤ t → t < T → r .length s ≤ r .length t
   longer s t l m =
@@ -109,13 +101,13 @@ module _ (M : Meaning) (T : ℕ) (r : Run M T) where
       let ls : s < T = omega arith in
       let a = rise R (Pole false) T one-on s t l m j (r .path t j) (level-at t m j hj .walk) in
       let b = level-at s ls i hi .shortest (a .0) (subst (Walk (R s) (Pole false) (a .0)) (sym q) (a .2)) in
-      let Ns : ℕ = r .length s in
-      let Nt : ℕ = r .length t in
-      let at-t : back (r .path t) Nt (Nt - j) ≡ mir (r .path t j) = ap (λ k. mir (r .path t k)) (omega arith) in
-      let at-s : back (r .path s) Ns (Ns - i) ≡ mir (r .path s i) = ap (λ k. mir (r .path s k)) (omega arith) in
-      let c = rise Mir (Pole false) T mirror-on s t l m (Nt - j) (back (r .path t) Nt (Nt - j)) (mirror-at t m (Nt - j) (omega arith) .walk) in
-      let d = mirror-at s ls (Ns - i) (omega arith) .shortest (c .0)
-      (subst (Walk (Mir s) (Pole false) (c .0)) (at-t ∙ ap mir (sym q) ∙ sym at-s) (c .2)) in
+      let fin = r .stage t m .moving .path .finish in
+      let on = turned-walk (R t) (r .path t j) (Pole true) (r .length t - j)
+      (subst (Walk (R t) (r .path t j) (r .length t - j)) fin (rest-walk (R t) (r .path t) (r .length t) (along t m) (r .length t - j) j (omega arith))) in
+      let c = rise (λ s x y. R s y x) (Pole true) T one-back s t l m (r .length t - j) (r .path t j) on in
+      let d = turned-walk (λ x y. R s y x) (Pole true) (r .path t j) (c .0) (c .2) in
+      let w = join-walk (R s) (Pole false) (r .path s i) (Pole true) i (c .0) (level-at s ls i hi .walk) (subst⁻¹ (λ z. Walk (R s) z (c .0) (Pole true)) q d) in
+      let n = level-at s ls (r .length s) (omega arith) .shortest (i + c .0) (subst⁻¹ (Walk (R s) (Pole false) (i + c .0)) (r .stage s ls .moving .path .finish) w) in
       omega (arith, a .1, c .1)
 
   -- what steps to y at its level has a number above that of the critical pair's first state

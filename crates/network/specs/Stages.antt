@@ -1,7 +1,9 @@
 -- Moves one after the other, each along a shortest path of lowest lane numbers.
 use mathlib.Core.Path.{_≡_}
 use mathlib.Core.Bool.{Bool, true, false}
-use Prim.Native.Nat.{ℕ, zero, suc, _+_, _*_, _≤_, _<_}
+use Prim.Native.Nat.{ℕ, zero, suc, _+_, _-_, _*_, _≤_, _<_}
+use lib.Dec.{eqb}
+use Rattle.levels.specs.Counting.{tally}
 use Rattle.levels.specs.Levels.{Straight, Lowest}
 use Rattle.floor.specs.Meaning.{Meaning}
 use Rattle.network.specs.States.{State, Pole, Plus, Minus, amount, Step, walked}
@@ -39,5 +41,11 @@ Pairs-differ =
     (M : Meaning) (T : ℕ) (r : Run M T) (s t : ℕ) → s < t → t < T → r .length s ≡ r .length t
     → r .path s (r .pair s) ≡ r .path t (r .pair t) → r .path s (suc (r .pair s)) ≡ r .path t (suc (r .pair t)) → ⊥
 
+-- at most 2 * m * m moves share one length, m the number of lanes (a path of l lanes has l + 1 steps)
+abbrev pub Few-share-a-length : Type 0
+Few-share-a-length =
+    (M : Meaning) (T : ℕ) (r : Run M T) (l : ℕ) → tally (λ s. eqb (r .length s - 1) l) T ≤ 2 * (M .floor .lanes * M .floor .lanes)
+
+-- at most 2 * m * m * m follow one another
 abbrev pub Few-stages : Type 0
 Few-stages = (M : Meaning) (T : ℕ) → Run M T → T ≤ M .floor .lanes * (2 * (M .floor .lanes * M .floor .lanes))

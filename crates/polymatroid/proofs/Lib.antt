@@ -2,6 +2,7 @@ pub mod Codes
 pub mod Finite
 pub mod Side
 pub mod Room
+pub mod Zeroing
 pub mod Unions
 pub mod Exchange
 pub mod Critical

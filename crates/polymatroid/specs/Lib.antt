@@ -1,6 +1,7 @@
 pub mod Sets
 pub mod Finite
 pub mod Side
+pub mod Room
 pub mod Exchange
 pub mod Critical
 pub mod Laws

@@ -1,0 +1,5 @@
+use Rattle.polymatroid.proofs.Critical.{critical-dies}
+use Rattle.polymatroid.proofs.critical_pair_dies.Needs as need
+
+pub returns : need.returns
+returns c = critical-dies

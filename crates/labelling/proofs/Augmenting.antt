@@ -14,8 +14,9 @@ use Rattle.network.specs.Stages.{num}
 use Rattle.network.specs.Labelling.{holder, Found}
 use Rattle.labelling.specs.Rules.{full, inTight, ruled, Carries}
 use Rattle.labelling.specs.Table.{Mark, Ended, label, path}
-use Rattle.labelling.specs.Augmenting.{Augmenting, Path-augments, Path-first}
-use Rattle.labelling.proofs.Rules.{full-some, full-zero, room-less, tight-room, room-tight}
+use Rattle.labelling.specs.Augmenting.{Augmenting}
+use Rattle.network.proofs.Rooms.{room-less}
+use Rattle.labelling.proofs.Rules.{full-some, full-zero, tight-room, room-tight}
 use Rattle.labelling.proofs.Finds.{rules-find}
 
 -- two states of one lane: the same, or a turn
@@ -184,7 +185,7 @@ module _ (M : Meaning) (laws : Lawful M) (f : ℕ → ℕ) (fits : Fits M f) whe
           (aug .carries i (omega arith)) (aug .carries (suc i) (omega arith)) (aug .distinct i (suc i) (omega arith) (omega arith)));
     }
 
-    walk : (i : ℕ) → i ≤ suc k → Walk (Step M f) (Q 0) i (Q i)
+    pub walk : (i : ℕ) → i ≤ suc k → Walk (Step M f) (Q 0) i (Q i)
     walk zero h = refl
     walk (suc i) h = (Q i, walk i (omega arith), link i (omega arith))
 
@@ -260,10 +261,17 @@ first-at M laws f fits Q k aug P l found e i h q =
     from-start zero h q = aug .begin
     from-start (suc i) h q = absurd (no-start M laws f fits P l pa i (omega arith) q)
 
-pub path-augments : Path-augments
+-- the path that the labelling finds is an augmenting path
+pub path-augments : (M : Meaning) (f : ℕ → ℕ) (l e : ℕ) (t : List Mark) → Lawful M → Fits M f → label (ruled M f) (M .floor .lanes) ≡ Ended l e t
+    → Augmenting M f (path l e t) l
 path-augments M f l e t laws fits q = augments M laws f fits (path l e t) l (rules-find M f l e t laws fits q)
 
-pub path-first : Path-first
+-- no augmenting path is shorter, and of those as long it is the first, compared from the despatch back
+pub path-first : (M : Meaning) (f : ℕ → ℕ) (l e : ℕ) (t : List Mark) → Lawful M → Fits M f → label (ruled M f) (M .floor .lanes) ≡ Ended l e t
+    → (Q : ℕ → State) (k : ℕ) → Augmenting M f Q k
+    → (l ≤ k)
+    × (k ≡ l → (i : ℕ) → i ≤ l → ((j : ℕ) → i < j → j ≤ l → Q j ≡ path l e t j)
+    → (Q i ≡ path l e t i) ⊎ (num (path l e t i) < num (Q i)))
 path-first M f l e t laws fits q Q k aug = (
   no-shorter M laws f fits Q k aug (path l e t) l (rules-find M f l e t laws fits q),
   λ kl i h same.

@@ -3,7 +3,7 @@ use mathlib.Core.Path.{_≡_, refl, sym, ap, ap₂, subst, subst⁻¹, _∙_}
 use mathlib.Core.Bool.{Bool, true, false, cond, not, _&&_, _||_}
 use mathlib.Core.Logic.{inl, inr, _⊎_}
 use mathlib.Core.List.{List, [], _∷_}
-use Prim.Native.Nat.{ℕ, zero, suc, _+_, _-_, _≤_, _<_}
+use Prim.Native.Nat.{ℕ, zero, suc, _+_, _-_, _*_, _≤_, _<_}
 use native.Mathlib.Omega.{arith}
 use lib.Dec.{eqb, ltb}
 use Rattle.std.proofs.shelf.Tests.{cases-lt, cases-bool, cases-eq, both-ways, eqb-true, eq-eqb, lt-ltb, ltb-true, and-parts, and-from, or-cases, or-left, or-right, not-true, not-from-false}
@@ -13,11 +13,12 @@ use Rattle.floor.specs.Meaning.{Meaning, Lawful}
 use Rattle.network.specs.States.{State, Pole, Plus, Minus, at, amount, roomAll, Ok}
 use Rattle.network.specs.Feasible.{Fits}
 use Rattle.network.specs.Labelling.{Gives}
+use Rattle.network.specs.Cuts.{Balanced, FitsBy, total, capacity}
 use Rattle.network.specs.Finished.{Lab, LabLane, Opens, Closed}
 use Rattle.network.proofs.Finished.{finished-best}
 use Rattle.labelling.specs.Rules.{full, ruled, Carries}
 use Rattle.labelling.specs.Table.{Mark, None, Mk, signed, mark, isPlus, isMinus, tab, Finished, label, Sits}
-use Rattle.labelling.specs.Right.{nears, near, plused, minused, Rules-close, Rules-best}
+use Rattle.labelling.specs.Near.{nears, near, plused, minused, unlabelled}
 use Rattle.labelling.proofs.Scan.{none-mk, cases-mark, Good}
 use Rattle.labelling.proofs.Rules.{full-some, some-full}
 use Rattle.labelling.proofs.Outcomes.{Unended, Done, Right, label-right}
@@ -181,7 +182,9 @@ closes-at : (M : Meaning) (laws : Lawful M) (f : ℕ → ℕ) (fits : Fits M f) 
 unfolding T U
 closes-at M laws f fits l d = closes M laws f fits l d
 
-pub rules-close : Rules-close
+-- where the rules find no path, their labels are closed ..
+pub rules-close : (M : Meaning) (f : ℕ → ℕ) (t : List Mark) → Lawful M → Fits M f → label (ruled M f) (M .floor .lanes) ≡ Finished t
+    → Closed M f (plused t) (minused t) (near M f t)
 rules-close M f t laws fits q =
     let r : Right (ruled M f) (M .floor .lanes) (Finished t) = subst (Right (ruled M f) (M .floor .lanes)) q (label-right (ruled M f) (M .floor .lanes)) in
     at-table (r .0) (r .1 .is) (r .1)
@@ -190,6 +193,9 @@ rules-close M f t laws fits q =
     at-table l o d =
         subst⁻¹ (λ t. Closed M f (plused t) (minused t) (near M f t)) o (closes-at M laws f fits l (subst (Done (ruled M f) (M .floor .lanes) l) o d))
 
-pub rules-best : Rules-best
+-- .. so the plan carries what the cut lets through, and no plan carries more
+pub rules-best : (M : Meaning) (f : ℕ → ℕ) (t : List Mark) → Lawful M → Fits M f → Balanced M f → label (ruled M f) (M .floor .lanes) ≡ Finished t
+    → (total M f ≡ capacity M (near M f t) (unlabelled t))
+    × ((q : ℕ) (g : ℕ → ℕ) → Balanced M g → FitsBy M q g → total M g ≤ q * total M f)
 rules-best M f t laws fits bal q =
     finished-best M f (plused t) (minused t) (near M f t) laws fits bal (rules-close M f t laws fits q)

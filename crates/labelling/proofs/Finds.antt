@@ -15,7 +15,6 @@ use Rattle.network.specs.Labelling.{holder, Gives, Labelled, Found}
 use Rattle.network.proofs.Labelling.{found}
 use Rattle.labelling.specs.Rules.{ruled, Carries}
 use Rattle.labelling.specs.Table.{Mark, None, Mk, signed, mark, isAt, stateOf, nameOf, name, back, path, tab, Ended, Finished, label, Sits, SitsEnd}
-use Rattle.labelling.specs.Right.{Rules-label, Rules-find}
 use Rattle.labelling.proofs.Scan.{none-mk, cases-mark, state-sits, Good, good-tab, sits-down}
 use Rattle.labelling.proofs.Rules.{rules-give}
 use Rattle.labelling.proofs.Outcomes.{Unended, Ran, Right, label-right}
@@ -188,7 +187,9 @@ labelled-at : (M : Meaning) (laws : Lawful M) (f : ℕ → ℕ) (fits : Fits M f
 unfolding T
 labelled-at M laws f fits l e r = labelled M laws f fits l e r
 
-pub rules-label : Rules-label
+-- where the rules find a path, their labels are those of a search by levels ..
+pub rules-label : (M : Meaning) (f : ℕ → ℕ) (l e : ℕ) (t : List Mark) → Lawful M → Fits M f → label (ruled M f) (M .floor .lanes) ≡ Ended l e t
+    → Labelled M f (suc l) (SitsEnd l t) (name e t)
 rules-label M f l e t laws fits q =
     let ran : Ran (ruled M f) (M .floor .lanes) l e t = subst (Right (ruled M f) (M .floor .lanes)) q (label-right (ruled M f) (M .floor .lanes)) in
     at-table (ran .is) ran
@@ -198,7 +199,9 @@ rules-label M f l e t laws fits q =
         subst⁻¹ (λ t. Labelled M f (suc l) (SitsEnd l t) (name e t)) o
         (labelled-at M laws f fits l e (subst (Ran (ruled M f) (M .floor .lanes) l e) o ran))
 
-pub rules-find : Rules-find
+-- .. so the path is a shortest one, of lowest lane numbers
+pub rules-find : (M : Meaning) (f : ℕ → ℕ) (l e : ℕ) (t : List Mark) → Lawful M → Fits M f → label (ruled M f) (M .floor .lanes) ≡ Ended l e t
+    → Found M f (path l e t) (suc l)
 unfolding path back
 rules-find M f l e t laws fits q =
     found M laws f fits (suc l) (SitsEnd l t) (name e t) (rules-label M f l e t laws fits q) (path l e t) (omega arith) end there names

@@ -3,7 +3,15 @@ pub mod Rules
 pub mod Outcomes
 pub mod Finds
 pub mod Closes
-pub mod Steps
-pub mod Wording
+pub mod Pairs
+pub mod Amounts
 pub mod Augmenting
+pub mod Rows
+pub mod Made
+pub mod FirstPath
+pub mod Moving
+pub mod Runs
+pub mod Best
+pub mod Same
+pub mod AnyOrder
 pub mod Sweep

@@ -17,65 +17,8 @@ use Rattle.network.specs.Trays.{trays}
 use Rattle.network.specs.States.{State, Pole, Plus, Minus, at, roomAt, roomAll, roomLess, amount, Ok, Turn, Step}
 use Rattle.network.specs.Feasible.{Fits}
 use Rattle.network.specs.Labelling.{Gives}
-use Rattle.floor.proofs.Places.{place-below, place-apart, laneAt-there, laneAt-place}
+use Rattle.network.proofs.Rooms.{all-is, member-full, member-room, room-member, member-carries, room-less}
 use Rattle.labelling.specs.Rules.{full, inTight, ruled, Carries, Rules-give}
-
--- rooms at a station k, for either end
-module _ (M : Meaning) (laws : Lawful M) (f : ℕ → ℕ) (fits : Fits M f) (d : Bool) (k : ℕ) (kin : k < M .floor .stations) where
-  there : (e : ℕ) → e < M .floor .lanes → M .floor .end d e ≡ k → place (M .floor) d k e < count (M .floor) d k
-  there e l q = place-below (M .floor) d k e l (eq-eqb (M .floor .end d e) k q)
-
-  apart : (e g : ℕ) → M .floor .end d e ≡ k → M .floor .end d g ≡ k → (e ≡ g → ⊥) → place (M .floor) d k e ≡ place (M .floor) d k g → ⊥
-  apart e g a b ne r = ne (place-apart (M .floor) d k e g (eq-eqb (M .floor .end d e) k a) (eq-eqb (M .floor .end d g) k b) r)
-
-  room-is : (e g : ℕ) → M .floor .end d e ≡ k → roomAt M f d e g ≡ roomBut (count (M .floor) d k) (M .cap d k) (trays M f d k) (place (M .floor) d k e) g
-  unfolding roomAt
-  room-is e g q = ap (λ i. roomBut (count (M .floor) d i) (M .cap d i) (trays M f d i) (place (M .floor) d i e) g) q
-
-  less-is : (e g : ℕ) → M .floor .end d e ≡ k → roomLess M f d e g ≡ roomBut (count (M .floor) d k) (M .cap d k) (trays M f d k) (place (M .floor) d k e) (place (M .floor) d k g)
-  less-is e g q = ap (λ i. roomAt M f d e (place (M .floor) d i g)) q ∙ room-is e (place (M .floor) d k g) q
-
-  all-is : (e : ℕ) → M .floor .end d e ≡ k → roomAll M f d e ≡ room (count (M .floor) d k) (M .cap d k) (trays M f d k) (place (M .floor) d k e)
-  all-is e q =
-      ap (λ i. roomAt M f d e (count (M .floor) d i)) q ∙ room-is e (count (M .floor) d k) q
-      ∙ sym (room-but (count (M .floor) d k) (M .cap d k) (laws .laws d k kin .0) (trays M f d k) (fits d k kin) (place (M .floor) d k e))
-
-  -- the tight set of a full lane
-  tight-at : (e : ℕ) → e < M .floor .lanes → M .floor .end d e ≡ k → roomAll M f d e ≡ 0
-      → Tight (count (M .floor) d k) (M .cap d k) (trays M f d k) (tightSet (count (M .floor) d k) (M .cap d k) (trays M f d k) (place (M .floor) d k e))
-      × In (tightSet (count (M .floor) d k) (M .cap d k) (trays M f d k) (place (M .floor) d k e)) (place (M .floor) d k e)
-  tight-at e l q z =
-      full-tight (count (M .floor) d k) (M .cap d k) (laws .laws d k kin .0) (trays M f d k) (fits d k kin) (place (M .floor) d k e) (there e l q) (sym (all-is e q) ∙ z)
-
-  -- a member of it is full, has room for the lane, and its tight set lies within
-  member-full : (e p : ℕ) → e < M .floor .lanes → M .floor .end d e ≡ k → roomAll M f d e ≡ 0
-      → (g : ℕ) → M .floor .end d g ≡ k → In (tightSet (count (M .floor) d k) (M .cap d k) (trays M f d k) (place (M .floor) d k e)) (place (M .floor) d k g) → roomAll M f d g ≡ 0
-  member-full e p l q z g kg i =
-      let t = tight-at e l q z in
-      all-is g kg ∙ tight-full (count (M .floor) d k) (M .cap d k) (laws .laws d k kin .0) (trays M f d k) (fits d k kin) (place (M .floor) d k g)
-      (tightSet (count (M .floor) d k) (M .cap d k) (trays M f d k) (place (M .floor) d k e)) (t .0) i
-
-  member-room : (e g : ℕ) → e < M .floor .lanes → M .floor .end d e ≡ k → M .floor .end d g ≡ k → (e ≡ g → ⊥)
-      → In (tightSet (count (M .floor) d k) (M .cap d k) (trays M f d k) (place (M .floor) d k e)) (place (M .floor) d k g) → 0 < roomLess M f d e g
-  member-room e g l q kg ne i =
-      let r = roomBut-full (count (M .floor) d k) (M .cap d k) (laws .laws d k kin .0) (trays M f d k) (fits d k kin) (place (M .floor) d k e) (place (M .floor) d k g)
-      (there e l q) (apart e g q kg ne) i in
-      omega (arith, less-is e g q)
-
-  room-member : (e g : ℕ) → e < M .floor .lanes → M .floor .end d e ≡ k → roomAll M f d e ≡ 0 → 0 < roomLess M f d e g
-      → In (tightSet (count (M .floor) d k) (M .cap d k) (trays M f d k) (place (M .floor) d k e)) (place (M .floor) d k g)
-  room-member e g l q z r =
-      member-from-room (count (M .floor) d k) (M .cap d k) (laws .laws d k kin .0) (trays M f d k) (fits d k kin) (place (M .floor) d k e) (place (M .floor) d k g) (there e l q)
-      (sym (all-is e q) ∙ z) (omega (arith, less-is e g q))
-
-  member-carries : (e g : ℕ) → e < M .floor .lanes → g < M .floor .lanes → M .floor .end d e ≡ k → M .floor .end d g ≡ k → (e ≡ g → ⊥) → roomAll M f d e ≡ 0
-      → In (tightSet (count (M .floor) d k) (M .cap d k) (trays M f d k) (place (M .floor) d k e)) (place (M .floor) d k g) → 0 < f g
-  member-carries e g l lg q kg ne z i =
-      let t = tight-at e l q z in
-      let r = tightSet-carries (count (M .floor) d k) (M .cap d k) (laws .laws d k kin .0) (trays M f d k) (fits d k kin) (place (M .floor) d k e) (place (M .floor) d k g)
-      (tightSet (count (M .floor) d k) (M .cap d k) (trays M f d k) (place (M .floor) d k e)) (there e l q) (there g lg kg) (t .0) (t .1) i
-      (λ o. apart e g q kg ne (sym o)) in
-      omega (arith, ap f (laneAt-place (M .floor) d k g lg (eq-eqb (M .floor .end d g) k kg)))
 
 module _ (M : Meaning) (laws : Lawful M) (f : ℕ → ℕ) (fits : Fits M f) where
   -- a lane is full where its room is 0
@@ -94,15 +37,6 @@ module _ (M : Meaning) (laws : Lawful M) (f : ℕ → ℕ) (fits : Fits M f) whe
       elim (cases-bool (full M f d e))
       [ inl y ↦ absurd (omega (arith, full-zero d e l y)) | inr y ↦ not-from-false (full M f d e) y ]
 
-  -- a lane has no less room without another lane of its side
-  pub room-less : (d : Bool) (e g : ℕ) → e < M .floor .lanes → M .floor .end d g ≡ M .floor .end d e → (e ≡ g → ⊥) → roomAll M f d e ≤ roomLess M f d e g
-  unfolding roomAt
-  room-less d e g l q ne =
-      let i : ℕ = M .floor .end d e in
-      room-mono (count (M .floor) d i) (M .cap d i) (laws .laws d i (laws .rules .end-on d e l) .0) (trays M f d i) (fits d i (laws .rules .end-on d e l))
-      (place (M .floor) d i e) (place (M .floor) d i g) (place-below (M .floor) d i e l (eq-eqb (M .floor .end d e) i refl))
-      (λ r. ne (place-apart (M .floor) d i e g (eq-eqb (M .floor .end d e) i refl) (eq-eqb (M .floor .end d g) i q) r))
-
   pub tight-room : (d : Bool) (e g : ℕ) → e < M .floor .lanes → M .floor .end d g ≡ M .floor .end d e → (e ≡ g → ⊥) → inTight M f d e g ≡ true → 0 < roomLess M f d e g
   unfolding inTight
   tight-room d e g l q ne h = member-room M laws f fits d (M .floor .end d e) (laws .rules .end-on d e l) e g l refl q ne h
@@ -119,7 +53,7 @@ module _ (M : Meaning) (laws : Lawful M) (f : ℕ → ℕ) (fits : Fits M f) whe
   unfolding inTight
   tight-full-too d e g l lg q z h =
       full-room d g lg
-      ∙ eq-eqb (roomAll M f d g) 0 (member-full M laws f fits d (M .floor .end d e) (laws .rules .end-on d e l) e 0 l refl (full-zero d e l z) g q h)
+      ∙ eq-eqb (roomAll M f d g) 0 (member-full M laws f fits d (M .floor .end d e) (laws .rules .end-on d e l) e l refl (full-zero d e l z) g q h)
 
   -- a + lane and a - lane of its side
   plus-minus : (e g : ℕ) → e < M .floor .lanes → g < M .floor .lanes → M .floor .end true g ≡ M .floor .end true e → (e ≡ g → ⊥)
@@ -132,7 +66,7 @@ module _ (M : Meaning) (laws : Lawful M) (f : ℕ → ℕ) (fits : Fits M f) whe
         | inr y ↦
             let i : ltb 0 (f g) ≡ true = subst (λ b. cond b (inTight M f true e g) (ltb 0 (f g)) ≡ true) y h in
             let c = full-some true e l y in
-            (ltb-true 0 (f g) i, omega (arith, room-less true e g l q ne))
+            (ltb-true 0 (f g) i, omega (arith, room-less M laws f fits true e g l q ne))
       ]
 
   minus-plus : (e g : ℕ) → e < M .floor .lanes → g < M .floor .lanes → M .floor .end false g ≡ M .floor .end false e → (e ≡ g → ⊥)
@@ -144,7 +78,7 @@ module _ (M : Meaning) (laws : Lawful M) (f : ℕ → ℕ) (fits : Fits M f) whe
             tight-room false g e lg (sym q) (λ o. ne (sym o)) (and-parts (full M f false e) (inTight M f false g e) i .1)
         | inr y ↦
             let c = full-some false g lg y in
-            omega (arith, room-less false g e lg (sym q) (λ o. ne (sym o)))
+            omega (arith, room-less M laws f fits false g e lg (sym q) (λ o. ne (sym o)))
       ]
 
   gives-from : (x y : State) → Ok M x → Ok M y → Carries f x → ruled M f x y ≡ true → Gives M f x y × Carries f y

@@ -1,71 +1,61 @@
--- Steps one after the other: each makes the move of the path that the rules find, or changes nothing.
+-- A step: the labelling, the move along the path that it finds, and moves one after another.
 use mathlib.Core.Path.{_≡_}
 use mathlib.Core.Bool.{Bool, true, false}
-use Prim.Native.Nat.{ℕ, zero, suc, _+_, _*_, _≤_, _<_}
-use lib.Dec.{eqb}
-use Rattle.polymatroid.specs.Finite.{first, least}
-use Rattle.floor.specs.Meaning.{Meaning, Lawful}
-use Rattle.network.specs.States.{State, Pole, amount, walked}
-use Rattle.network.specs.Feasible.{Fits}
-use Rattle.network.specs.Cuts.{Balanced, FitsBy, total}
-use Rattle.network.specs.Stages.{Stage}
+use mathlib.Core.List.{List, [], _∷_}
+use Prim.Native.Nat.{ℕ, zero, suc, _+_}
+use mathlib.Core.Option.{Option, none, some}
+use Rattle.floor.specs.Meaning.{Meaning}
+use Rattle.network.specs.States.{State, applied}
 use Rattle.labelling.specs.Rules.{ruled}
-use Rattle.labelling.specs.Table.{Outcome, Ended, Finished, label, path}
-
--- what a path of N steps lets through: the least of what its pairs let through
-unfoldable pub lets : Meaning → (ℕ → ℕ) → (ℕ → State) → ℕ → ℕ
-lets M f P N = least (λ q. true) (λ q. amount M f (P q) (P (suc q))) (amount M f (P 0) (P 1)) N
-
--- the first pair that lets no more through
-unfoldable pub tightest : Meaning → (ℕ → ℕ) → (ℕ → State) → ℕ → ℕ
-tightest M f P N = first (λ q. eqb (amount M f (P q) (P (suc q))) (lets M f P N)) N
-
-abbrev pub isEnded : Outcome → Bool
-isEnded (Ended l e t) = true
-isEnded (Finished t) = false
-
-abbrev pub pathOf : Outcome → ℕ → State
-pathOf (Ended l e t) = path l e t
-pathOf (Finished t) = λ i. Pole false
-
-abbrev pub lengthOf : Outcome → ℕ
-lengthOf (Ended l e t) = suc l
-lengthOf (Finished t) = 0
-
-abbrev pub amountOf : Meaning → (ℕ → ℕ) → Outcome → ℕ
-amountOf M f (Ended l e t) = lets M f (path l e t) (suc l)
-amountOf M f (Finished t) = 0
-
--- the trays after a step that comes out so
-abbrev pub moved : Meaning → (ℕ → ℕ) → Outcome → ℕ → ℕ
-moved M f (Ended l e t) = walked (lets M f (path l e t) (suc l)) (path l e t) (suc l) f
-moved M f (Finished t) = f
+use Rattle.labelling.specs.Table.{Mark, Outcome, Ended, Finished, label, path}
+use Rattle.labelling.specs.Amount.{amountOf}
 
 -- how the labelling at the trays f comes out
 unfoldable pub outcome : Meaning → (ℕ → ℕ) → Outcome
 outcome M f = label (ruled M f) (M .floor .lanes)
 
-unfoldable pub stepped : Meaning → (ℕ → ℕ) → ℕ → ℕ
-stepped M f = moved M f (outcome M f)
+-- its labels
+abbrev pub tableOf : Outcome → List Mark
+tableOf (Ended l e t) = t
+tableOf (Finished t) = t
 
--- the trays after n steps
-unfoldable pub steps : Meaning → (ℕ → ℕ) → ℕ → ℕ → ℕ
-steps M f zero = f
-steps M f (suc n) = stepped M (steps M f n)
+abbrev pub labels : Meaning → (ℕ → ℕ) → List Mark
+labels M f = tableOf (outcome M f)
 
--- a step keeps a plan a plan, and adds its amount to the total: at least 1 where it finds a path
-abbrev pub Step-right : Type 0
-Step-right =
-    (M : Meaning) (f : ℕ → ℕ) → Lawful M → Fits M f → Balanced M f
-    → Fits M (stepped M f) × Balanced M (stepped M f) × (total M (stepped M f) ≡ total M f + amountOf M f (outcome M f))
-    × (isEnded (outcome M f) ≡ true → 0 < amountOf M f (outcome M f))
+-- the lanes P 1, .., P l
+unfoldable pub row : (ℕ → State) → ℕ → List State
+row P zero = []
+row P (suc l) = P 1 ∷ row (λ i. P (suc i)) l
 
--- after 2 m ^ 3 steps the labelling finds no path
-abbrev pub Steps-end : Type 0
-Steps-end = (M : Meaning) (f : ℕ → ℕ) → Lawful M → Fits M f → isEnded (outcome M (steps M f (M .floor .lanes * (2 * (M .floor .lanes * M .floor .lanes))))) ≡ false
+-- signed lanes, and an amount
+pub record Move : Type 0 where
+  pub lanes : List State
+  pub amount : ℕ
 
--- so they reach a plan that carries the most
-abbrev pub Steps-best : Type 0
-Steps-best =
-    (M : Meaning) (f : ℕ → ℕ) → Lawful M → Fits M f → Balanced M f → (q : ℕ) (g : ℕ → ℕ) → Balanced M g → FitsBy M q g
-    → total M g ≤ q * total M (steps M f (M .floor .lanes * (2 * (M .floor .lanes * M .floor .lanes))))
+-- the move that a labelling leads to, if it found a path
+abbrev pub moveOf : Meaning → (ℕ → ℕ) → Outcome → Option Move
+moveOf M f (Ended l e t) = some (record { lanes = row (path l e t) l; amount = amountOf M f (row (path l e t) l) })
+moveOf M f (Finished t) = none
+
+-- the move that a step makes at the trays f, or none: the plan is finished
+unfoldable pub step : Meaning → (ℕ → ℕ) → Option Move
+step M f = moveOf M f (outcome M f)
+
+-- n trays more on each + lane of the list, n fewer on each - lane
+unfoldable pub shifted : ℕ → List State → (ℕ → ℕ) → ℕ → ℕ
+shifted n [] f = f
+shifted n (x ∷ p) f = shifted n p (applied n x f)
+
+-- the trays after a move
+abbrev pub made : Move → (ℕ → ℕ) → ℕ → ℕ
+made v f = shifted (v .amount) (v .lanes) f
+
+-- each move of the list is the one that a step makes at the trays that those before it leave
+abbrev pub Follow : Meaning → (ℕ → ℕ) → List Move → Type 0
+Follow M f [] = Unit {0}
+Follow M f (v ∷ vs) = (step M f ≡ some v) × Follow M (made v f) vs
+
+-- the trays after them
+unfoldable pub madeAll : List Move → (ℕ → ℕ) → ℕ → ℕ
+madeAll [] f = f
+madeAll (v ∷ vs) f = madeAll vs (made v f)

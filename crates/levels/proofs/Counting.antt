@@ -58,6 +58,15 @@ pigeonhole-all f n c below differ =
       pigeonhole (λ i. true) f n c (record { below = λ i l p. below i l; differ = λ i j l k p q. differ i j l k }),
     )
 
+-- tests that agree below n
+pub tally-same : (s t : ℕ → Bool) (n : ℕ) → ((i : ℕ) → i < n → s i ≡ t i) → tally s n ≡ tally t n
+unfolding tally
+tally-same s t zero e = refl
+tally-same s t (suc n) e =
+    let ih = tally-same s t n (λ i l. e i (omega arith)) in
+    let h = e n (omega arith) in
+    grind arith
+
 -- the first number can be counted first
 pub tally-first : (t : ℕ → Bool) (n : ℕ) → tally t (suc n) ≡ cond (t 0) 1 0 + tally (λ i. t (suc i)) n
 unfolding tally

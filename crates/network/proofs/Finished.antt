@@ -21,78 +21,13 @@ use Rattle.network.specs.Labelling.{Gives}
 use Rattle.network.specs.Cuts.{through, total, Balanced, FitsBy, setOf, crosses, capacity}
 use Rattle.network.specs.Finished.{Lab, LabLane, Opens, Closed, upper, Finished-best}
 use Rattle.floor.proofs.Places.{place-below, place-apart, laneAt-there, laneAt-place}
+use Rattle.network.proofs.Rooms.{tightAt, there, apart, room-is, less-is, all-is, tight-at, member-full, member-room, room-member, member-within, member-carries}
 use Rattle.network.proofs.Hits.{sum-same, sum-both, sum-none}
 use Rattle.network.proofs.Loads.{minus-carries}
 use Rattle.network.proofs.Visits.{Open, Free, byArrival, byDeparture, open-unless, free-unless, open-free}
 use Rattle.network.proofs.Labelling.{turn?}
 use Rattle.network.proofs.Splice.{plus-departs}
 use Rattle.network.proofs.Cuts.{setOf-below, has-setOf, load-setOf, crossing, crossing-parts, cut-bounds}
-
--- rooms at a station k, for either end
-module _ (M : Meaning) (laws : Lawful M) (f : ℕ → ℕ) (fits : Fits M f) (d : Bool) (k : ℕ) (kin : k < M .floor .stations) where
-  there : (e : ℕ) → e < M .floor .lanes → M .floor .end d e ≡ k → place (M .floor) d k e < count (M .floor) d k
-  there e l q = place-below (M .floor) d k e l (eq-eqb (M .floor .end d e) k q)
-
-  apart : (e g : ℕ) → M .floor .end d e ≡ k → M .floor .end d g ≡ k → (e ≡ g → ⊥) → place (M .floor) d k e ≡ place (M .floor) d k g → ⊥
-  apart e g a b ne r = ne (place-apart (M .floor) d k e g (eq-eqb (M .floor .end d e) k a) (eq-eqb (M .floor .end d g) k b) r)
-
-  room-is : (e g : ℕ) → M .floor .end d e ≡ k → roomAt M f d e g ≡ roomBut (count (M .floor) d k) (M .cap d k) (trays M f d k) (place (M .floor) d k e) g
-  unfolding roomAt
-  room-is e g q = ap (λ i. roomBut (count (M .floor) d i) (M .cap d i) (trays M f d i) (place (M .floor) d i e) g) q
-
-  less-is : (e g : ℕ) → M .floor .end d e ≡ k → roomLess M f d e g ≡ roomBut (count (M .floor) d k) (M .cap d k) (trays M f d k) (place (M .floor) d k e) (place (M .floor) d k g)
-  less-is e g q = ap (λ i. roomAt M f d e (place (M .floor) d i g)) q ∙ room-is e (place (M .floor) d k g) q
-
-  all-is : (e : ℕ) → M .floor .end d e ≡ k → roomAll M f d e ≡ room (count (M .floor) d k) (M .cap d k) (trays M f d k) (place (M .floor) d k e)
-  all-is e q =
-      ap (λ i. roomAt M f d e (count (M .floor) d i)) q ∙ room-is e (count (M .floor) d k) q
-      ∙ sym (room-but (count (M .floor) d k) (M .cap d k) (laws .laws d k kin .0) (trays M f d k) (fits d k kin) (place (M .floor) d k e))
-
-  -- the tight set of a full lane
-  tight-at : (e : ℕ) → e < M .floor .lanes → M .floor .end d e ≡ k → roomAll M f d e ≡ 0
-      → Tight (count (M .floor) d k) (M .cap d k) (trays M f d k) (tightSet (count (M .floor) d k) (M .cap d k) (trays M f d k) (place (M .floor) d k e))
-      × In (tightSet (count (M .floor) d k) (M .cap d k) (trays M f d k) (place (M .floor) d k e)) (place (M .floor) d k e)
-  tight-at e l q z =
-      full-tight (count (M .floor) d k) (M .cap d k) (laws .laws d k kin .0) (trays M f d k) (fits d k kin) (place (M .floor) d k e) (there e l q) (sym (all-is e q) ∙ z)
-
-  -- a member of it is full, has room for the lane, and its tight set lies within
-  member-full : (e p : ℕ) → e < M .floor .lanes → M .floor .end d e ≡ k → roomAll M f d e ≡ 0
-      → (g : ℕ) → M .floor .end d g ≡ k → In (tightSet (count (M .floor) d k) (M .cap d k) (trays M f d k) (place (M .floor) d k e)) (place (M .floor) d k g) → roomAll M f d g ≡ 0
-  member-full e p l q z g kg i =
-      let t = tight-at e l q z in
-      all-is g kg ∙ tight-full (count (M .floor) d k) (M .cap d k) (laws .laws d k kin .0) (trays M f d k) (fits d k kin) (place (M .floor) d k g)
-      (tightSet (count (M .floor) d k) (M .cap d k) (trays M f d k) (place (M .floor) d k e)) (t .0) i
-
-  member-room : (e g : ℕ) → e < M .floor .lanes → M .floor .end d e ≡ k → M .floor .end d g ≡ k → (e ≡ g → ⊥)
-      → In (tightSet (count (M .floor) d k) (M .cap d k) (trays M f d k) (place (M .floor) d k e)) (place (M .floor) d k g) → 0 < roomLess M f d e g
-  member-room e g l q kg ne i =
-      let r = roomBut-full (count (M .floor) d k) (M .cap d k) (laws .laws d k kin .0) (trays M f d k) (fits d k kin) (place (M .floor) d k e) (place (M .floor) d k g)
-      (there e l q) (apart e g q kg ne) i in
-      omega (arith, less-is e g q)
-
-  room-member : (e g : ℕ) → e < M .floor .lanes → M .floor .end d e ≡ k → roomAll M f d e ≡ 0 → 0 < roomLess M f d e g
-      → In (tightSet (count (M .floor) d k) (M .cap d k) (trays M f d k) (place (M .floor) d k e)) (place (M .floor) d k g)
-  room-member e g l q z r =
-      member-from-room (count (M .floor) d k) (M .cap d k) (laws .laws d k kin .0) (trays M f d k) (fits d k kin) (place (M .floor) d k e) (place (M .floor) d k g) (there e l q)
-      (sym (all-is e q) ∙ z) (omega (arith, less-is e g q))
-
-  member-within : (e g : ℕ) → e < M .floor .lanes → M .floor .end d e ≡ k → roomAll M f d e ≡ 0
-      → In (tightSet (count (M .floor) d k) (M .cap d k) (trays M f d k) (place (M .floor) d k e)) (place (M .floor) d k g)
-      → (p : ℕ) → In (tightSet (count (M .floor) d k) (M .cap d k) (trays M f d k) (place (M .floor) d k g)) p
-      → In (tightSet (count (M .floor) d k) (M .cap d k) (trays M f d k) (place (M .floor) d k e)) p
-  member-within e g l q z i p j =
-      let t = tight-at e l q z in
-      tightSet-smallest (count (M .floor) d k) (M .cap d k) (laws .laws d k kin .0) (trays M f d k) (fits d k kin) (place (M .floor) d k g)
-      (tightSet (count (M .floor) d k) (M .cap d k) (trays M f d k) (place (M .floor) d k e)) (t .0) i p j
-
-  member-carries : (e g : ℕ) → e < M .floor .lanes → g < M .floor .lanes → M .floor .end d e ≡ k → M .floor .end d g ≡ k → (e ≡ g → ⊥) → roomAll M f d e ≡ 0
-      → In (tightSet (count (M .floor) d k) (M .cap d k) (trays M f d k) (place (M .floor) d k e)) (place (M .floor) d k g) → 0 < f g
-  member-carries e g l lg q kg ne z i =
-      let t = tight-at e l q z in
-      let r = tightSet-carries (count (M .floor) d k) (M .cap d k) (laws .laws d k kin .0) (trays M f d k) (fits d k kin) (place (M .floor) d k e) (place (M .floor) d k g)
-      (tightSet (count (M .floor) d k) (M .cap d k) (trays M f d k) (place (M .floor) d k e)) (there e l q) (there g lg kg) (t .0) (t .1) i
-      (λ o. apart e g q kg ne (sym o)) in
-      omega (arith, ap f (laneAt-place (M .floor) d k g lg (eq-eqb (M .floor .end d g) k kg)))
 
 -- open and free, as the labelling has them
 opens-open : (M : Meaning) (f : ℕ → ℕ) (x : State) → Opens M f x → Open M f x
@@ -109,7 +44,7 @@ open-opens M f (Minus e) o = o
 
 module _ (M : Meaning) (laws : Lawful M) (f : ℕ → ℕ) (fits : Fits M f) (pl mi near : ℕ → Bool) (cl : Closed M f pl mi near) where
   -- a step from a labelled state leads to a labelled lane
-  step-labels : (x y : State) → Lab pl mi x → Step M f x y → LabLane pl mi y
+  pub step-labels : (x y : State) → Lab pl mi x → Step M f x y → LabLane pl mi y
   step-labels x y l s =
       elim (turn? x y) [
         | inl t ↦ turned x y l t
@@ -136,11 +71,11 @@ module _ (M : Meaning) (laws : Lawful M) (f : ℕ → ℕ) (fits : Fits M f) (pl
       step-labels (a .0) y (a .2) (open-free M laws f fits (a .0) y (a .1) oy (a .4) (opens-open M f (a .0) (a .3)) r)
 
   -- the despatch is far
-  despatch-far : near (M .floor .pole true) ≡ false
+  pub despatch-far : near (M .floor .pole true) ≡ false
   despatch-far =
       elim (cases-bool (near (M .floor .pole true))) [ inl y ↦ absurd (near-labels (Pole true) tt y tt) | inr y ↦ y ]
 
-  stock-near : near (M .floor .pole false) ≡ true
+  pub stock-near : near (M .floor .pole false) ≡ true
   stock-near = cl .near-if (Pole false) tt tt tt
 
   -- a labelled state that arrives openly makes its station near
@@ -212,7 +147,7 @@ module _ (M : Meaning) (laws : Lawful M) (f : ℕ → ℕ) (fits : Fits M f) (pl
       full-e = out-full e le (ap near ke ∙ n) r
 
       full-g : roomAll M f false g ≡ 0
-      full-g = member-full M laws f fits false k kin e 0 le ke full-e g kg i
+      full-g = member-full M laws f fits false k kin e le ke full-e g kg i
 
       by : (x : State) → Lab pl mi x → Gives M f x (Plus g) → ⊥
       by (Pole false) l c = omega (arith, c .some, full-g)

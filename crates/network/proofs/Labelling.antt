@@ -16,7 +16,7 @@ use Rattle.network.specs.Labelling.{holder, Gives, Turns, Labelled, Found, Sea
 use Rattle.network.proofs.Skips.{skip-in, skip-out}
 
 -- states are told apart
-tell : (x y : State) → (x ≡ y) ⊎ (x ≡ y → ⊥)
+pub tell : (x y : State) → (x ≡ y) ⊎ (x ≡ y → ⊥)
 tell (Pole b) (Pole c) = poles b c
   where
     poles : (b c : Bool) → (Pole b ≡ Pole c) ⊎ (Pole b ≡ Pole c → ⊥)
@@ -77,7 +77,7 @@ module _ (M : Meaning) (laws : Lawful M) (f : ℕ → ℕ) (fits : Fits M f) whe
         | inr r ↦ record { ok-from = r .ok-from; ok-to = r .ok-to; meet = r .meet; some = inr (r .turn) }
       ]
 
-  skip : (d x y z : State) → Gives M f d x → holder x ≡ holder y → (x ≡ y → ⊥) → Gives M f y z → Step M f d z
+  pub skip : (d x y z : State) → Gives M f d x → holder x ≡ holder y → (x ≡ y → ⊥) → Gives M f y z → Step M f d z
   skip d (Pole false) y z r e ne s = absurd (ne (alone y e))
   skip d (Pole true) (Pole false) z r e ne s = absurd (omega arith)
   skip d (Pole true) (Pole true) z r e ne s = absurd (ne refl)

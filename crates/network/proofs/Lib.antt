@@ -1,5 +1,6 @@
 pub mod Paths
 pub mod Loads
+pub mod Rooms
 pub mod Hits
 pub mod Visits
 pub mod Arrivals
@@ -14,3 +15,4 @@ pub mod Skips
 pub mod Labelling
 pub mod Cuts
 pub mod Finished
+pub mod Unreached

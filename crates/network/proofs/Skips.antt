@@ -5,53 +5,23 @@ use mathlib.Core.Logic.{inl, inr, _⊎_}
 use Prim.Native.Nat.{ℕ, zero, suc, min, _+_, _≤_, _<_}
 use native.Mathlib.Omega.{arith}
 use Rattle.std.proofs.shelf.Tests.{cases-lt, cases-eq, eq-eqb}
-use Rattle.polymatroid.specs.Side.{In, Full, Tight, room, roomBut, tightSet, Within, Caps}
-use Rattle.polymatroid.proofs.Side.{tightSet-smallest}
-use Rattle.polymatroid.proofs.Room.{room-but, roomBut-full, full-tight, tight-full, member-from-room}
-use Rattle.floor.specs.Floor.{on, place, count, laneAt}
+use Rattle.floor.specs.Floor.{place}
 use Rattle.floor.specs.Meaning.{Meaning, Lawful}
-use Rattle.network.specs.Trays.{trays}
-use Rattle.network.specs.States.{State, Pole, Plus, Minus, at, roomAt, roomAll, roomLess, amount, Ok, Turn, Step}
+use Rattle.network.specs.States.{State, Pole, Plus, Minus, at, roomAll, roomLess, amount, Ok, Turn, Step}
 use Rattle.network.specs.Feasible.{Fits}
-use Rattle.floor.proofs.Places.{place-below, place-apart}
+use Rattle.network.proofs.Rooms.{member-full, member-room, room-member, member-within}
 use Rattle.network.proofs.Visits.{Open, Free, open-unless, free-unless, open-free}
-use Rattle.network.proofs.Arrivals.{room-here}
 use Rattle.network.proofs.Mirror.{mirror, mir, lawful-mirror, fits-mirror, amount-mirror, at-mirror, step-back, ok-mirror}
 
 module _ (M : Meaning) (laws : Lawful M) (f : ℕ → ℕ) (fits : Fits M f) (k : ℕ) (kin : k < M .floor .stations) where
-  K : ℕ
-  K = count (M .floor) true k
-
-  w : ℕ → ℕ
-  w = trays M f true k
-
-  caps : Caps (count (M .floor) true k) (M .cap true k)
-  caps = laws .laws true k kin .0
-
-  there : (e : ℕ) → e < M .floor .lanes → M .floor .end true e ≡ k → place (M .floor) true k e < count (M .floor) true k
-  there e l q = place-below (M .floor) true k e l (eq-eqb (M .floor .end true e) k q)
-
-  less-is : (e g : ℕ) → M .floor .end true e ≡ k
-      → roomLess M f true e g ≡ roomBut (count (M .floor) true k) (M .cap true k) (trays M f true k) (place (M .floor) true k e) (place (M .floor) true k g)
-  less-is e g q = ap (λ i. roomAt M f true e (place (M .floor) true i g)) q ∙ room-here M f k e (place (M .floor) true k g) q
-
-  all-is : (e : ℕ) → M .floor .end true e ≡ k → roomAll M f true e ≡ room (count (M .floor) true k) (M .cap true k) (trays M f true k) (place (M .floor) true k e)
-  all-is e q =
-      ap (λ i. roomAt M f true e (count (M .floor) true i)) q ∙ room-here M f k e (count (M .floor) true k) q
-      ∙ sym (room-but (count (M .floor) true k) (M .cap true k) caps (trays M f true k) (fits true k kin) (place (M .floor) true k e))
-
-  -- a lane h that is full, and steps to e, has e full too, and steps to what e steps to
+  -- a lane h that is full, and steps to - e, has e full too, and steps to what e steps to
   full-on : (h e : ℕ) → h < M .floor .lanes → e < M .floor .lanes → M .floor .end true h ≡ k → M .floor .end true e ≡ k → roomAll M f true h ≡ 0 → 0 < roomLess M f true h e
       → (roomAll M f true e ≡ 0) × ((g : ℕ) → g < M .floor .lanes → M .floor .end true g ≡ k → 0 < roomLess M f true e g → 0 < f g → Step M f (Plus h) (Minus g))
   full-on h e lh le kh ke z r =
-      let fh : Full (count (M .floor) true k) (M .cap true k) (trays M f true k) (place (M .floor) true k h) = sym (all-is h kh) ∙ z in
-      let t = full-tight (count (M .floor) true k) (M .cap true k) caps (trays M f true k) (fits true k kin) (place (M .floor) true k h) (there h lh kh) fh in
-      let S : ℕ = tightSet (count (M .floor) true k) (M .cap true k) (trays M f true k) (place (M .floor) true k h) in
-      let i : In S (place (M .floor) true k e) =
-      member-from-room (count (M .floor) true k) (M .cap true k) caps (trays M f true k) (fits true k kin) (place (M .floor) true k h) (place (M .floor) true k e)
-      (there h lh kh) fh (omega (arith, less-is h e kh)) in
-      let fe = tight-full (count (M .floor) true k) (M .cap true k) caps (trays M f true k) (fits true k kin) (place (M .floor) true k e) S (t .0) i in (
-        all-is e ke ∙ fe,
+      let i = room-member M laws f fits true k kin h e lh kh z r in
+      let ze = member-full M laws f fits true k kin h lh kh z e ke i in
+      (
+        ze,
         (λ g lg kg q c. record {
           ok-from = lh;
           ok-to = lg;
@@ -60,12 +30,9 @@ module _ (M : Meaning) (laws : Lawful M) (f : ℕ → ℕ) (fits : Fits M f) (k 
               elim (cases-eq h g) [
                 | inl s ↦ inr s
                 | inr s ↦
-                    let j = member-from-room (count (M .floor) true k) (M .cap true k) caps (trays M f true k) (fits true k kin) (place (M .floor) true k e) (place (M .floor) true k g)
-                    (there e le ke) fe (omega (arith, less-is e g ke)) in
-                    let b = tightSet-smallest (count (M .floor) true k) (M .cap true k) caps (trays M f true k) (fits true k kin) (place (M .floor) true k e) S (t .0) i (place (M .floor) true k g) j in
-                    let a = roomBut-full (count (M .floor) true k) (M .cap true k) caps (trays M f true k) (fits true k kin) (place (M .floor) true k h) (place (M .floor) true k g) (there h lh kh)
-                    (λ o. s (place-apart (M .floor) true k h g (eq-eqb (M .floor .end true h) k kh) (eq-eqb (M .floor .end true g) k kg) o)) b in
-                    inl (omega (arith, less-is h g kh))
+                    let j = room-member M laws f fits true k kin e g le ke ze q in
+                    let b = member-within M laws f fits true k kin h e lh kh z i (place (M .floor) true k g) j in
+                    inl (omega (arith, member-room M laws f fits true k kin h g lh kh kg s b))
               ];
         }),
       )

@@ -7,14 +7,10 @@ use native.Mathlib.Omega.{arith}
 use lib.Dec.{eqb}
 use Rattle.std.proofs.shelf.Ways.{tells}
 use Rattle.std.proofs.shelf.Tests.{cases-lt, cases-bool, cases-eq, both-ways, eqb-true, eqb-false, ne-eqb, eq-eqb}
-use Rattle.polymatroid.specs.Side.{roomBut, Within, Caps}
-use Rattle.polymatroid.proofs.Room.{room-mono}
-use Rattle.floor.specs.Floor.{on, place, count, laneAt}
 use Rattle.floor.specs.Meaning.{Meaning, Lawful}
-use Rattle.network.specs.Trays.{trays}
-use Rattle.network.specs.States.{State, Pole, Plus, Minus, at, roomAt, roomAll, roomLess, amount, Ok, Turn, Step, Path}
+use Rattle.network.specs.States.{State, Pole, Plus, Minus, at, roomAll, amount, Ok, Turn, Step, Path}
 use Rattle.network.specs.Feasible.{Fits}
-use Rattle.floor.proofs.Places.{place-below, place-apart}
+use Rattle.network.proofs.Rooms.{room-less}
 
 -- the arrival does not ask for a lane of its tight set
 abbrev pub Open : Meaning → (ℕ → ℕ) → State → Type 0
@@ -71,18 +67,6 @@ free-unless M f (Minus e) (Plus g) h t = grind (arith, tells)
 free-unless M f (Minus e) (Minus g) h t = omega arith
 
 module _ (M : Meaning) (laws : Lawful M) (f : ℕ → ℕ) (fits : Fits M f) where
-  on-end : (d : Bool) (e : ℕ) → on (M .floor) d (M .floor .end d e) e ≡ true
-  on-end d e = eq-eqb (M .floor .end d e) (M .floor .end d e) refl
-
-  -- a lane has no less room without another lane of its side
-  room-less : (d : Bool) (e g : ℕ) → e < M .floor .lanes → M .floor .end d g ≡ M .floor .end d e → (e ≡ g → ⊥) → roomAll M f d e ≤ roomLess M f d e g
-  unfolding roomAt
-  room-less d e g l q ne =
-      let i : ℕ = M .floor .end d e in
-      room-mono (count (M .floor) d i) (M .cap d i) (laws .laws d i (laws .rules .end-on d e l) .0) (trays M f d i) (fits d i (laws .rules .end-on d e l))
-      (place (M .floor) d i e) (place (M .floor) d i g) (place-below (M .floor) d i e l (on-end d e))
-      (λ r. ne (place-apart (M .floor) d i e g (on-end d e) (eq-eqb (M .floor .end d g) i q) r))
-
   -- an open arrival steps to each free departure of its station
   pub open-free : (x y : State) → Ok M x → Ok M y → at M true x ≡ at M false y → Open M f x → Free M f y → Step M f x y
   open-free x y a b m o q = record { ok-from = a; ok-to = b; meet = m; some = by x y a b m o q }
@@ -97,10 +81,10 @@ module _ (M : Meaning) (laws : Lawful M) (f : ℕ → ℕ) (fits : Fits M f) whe
       by (Plus e) (Pole true) a b m o q = inl o
       by (Plus e) (Plus g) a b m o q = inl (omega arith)
       by (Plus e) (Minus g) a b m o q =
-          elim (cases-eq e g) [ inl r ↦ inr r | inr r ↦ inl (omega (arith, room-less true e g a (sym m) r)) ]
+          elim (cases-eq e g) [ inl r ↦ inr r | inr r ↦ inl (omega (arith, room-less M laws f fits true e g a (sym m) r)) ]
       by (Minus e) (Pole false) a b m o q = absurd q
       by (Minus e) (Pole true) a b m o q = absurd (laws .rules .poles-clear true e a m)
       by (Minus e) (Plus g) a b m o q =
           elim (cases-eq e g)
-          [ inl r ↦ inr r | inr r ↦ inl (omega (arith, room-less false g e b m (λ s. r (sym s)))) ]
+          [ inl r ↦ inr r | inr r ↦ inl (omega (arith, room-less M laws f fits false g e b m (λ s. r (sym s)))) ]
       by (Minus e) (Minus g) a b m o q = inl (omega arith)

@@ -15,27 +15,26 @@ use Rattle.network.specs.Feasible.{Fits}
 use Rattle.network.specs.Labelling.{Found}
 use Rattle.labelling.specs.Rules.{ruled}
 use Rattle.labelling.specs.Table.{Mark, Ended, label, path}
-use Rattle.labelling.specs.Steps.{lets}
-use Rattle.labelling.specs.Wording.{besides, term, worded, Rules-amount}
+use Rattle.labelling.specs.Amount.{roomBeside, term, leastTerm}
 use Rattle.labelling.proofs.Finds.{rules-find}
-use Rattle.labelling.proofs.Steps.{lets-le, lets-at}
+use Rattle.labelling.proofs.Pairs.{lets, lets-le, lets-at}
 
 -- n is no more than what the state lets through where it arrives, and where it departs
 abbrev PartIn : Meaning → (ℕ → ℕ) → ℕ → State → State → Type 0
 PartIn M f n (Pole b) y = Unit {0}
-PartIn M f n (Plus e) y = n ≤ besides M f true e y
+PartIn M f n (Plus e) y = n ≤ roomBeside M f true e y
 PartIn M f n (Minus e) y = n ≤ f e
 
 abbrev PartOut : Meaning → (ℕ → ℕ) → ℕ → State → State → Type 0
 PartOut M f n x (Pole b) = Unit {0}
-PartOut M f n x (Plus g) = n ≤ besides M f false g x
+PartOut M f n x (Plus g) = n ≤ roomBeside M f false g x
 PartOut M f n x (Minus g) = n ≤ f g
 
 module _ (M : Meaning) (laws : Lawful M) (f : ℕ → ℕ) where
-  off : (d : Bool) (e g : ℕ) → (M .floor .end d g ≡ M .floor .end d e → ⊥) → besides M f d e (Plus g) ≡ roomAll M f d e
+  off : (d : Bool) (e g : ℕ) → (M .floor .end d g ≡ M .floor .end d e → ⊥) → roomBeside M f d e (Plus g) ≡ roomAll M f d e
   off d e g ne = ap (λ b. cond b (roomLess M f d e g) (roomAll M f d e)) (ne-eqb (M .floor .end d g) (M .floor .end d e) ne)
 
-  on : (d : Bool) (e g : ℕ) → M .floor .end d g ≡ M .floor .end d e → besides M f d e (Minus g) ≡ roomLess M f d e g
+  on : (d : Bool) (e g : ℕ) → M .floor .end d g ≡ M .floor .end d e → roomBeside M f d e (Minus g) ≡ roomLess M f d e g
   on d e g q = ap (λ b. cond b (roomLess M f d e g) (roomAll M f d e)) (eq-eqb (M .floor .end d g) (M .floor .end d e) q)
 
   join : (n : ℕ) (x y : State) → Ok M x → Ok M y → at M true x ≡ at M false y → 0 < amount M f x y → PartIn M f n x y → PartOut M f n x y → n ≤ amount M f x y
@@ -101,40 +100,40 @@ module _ (M : Meaning) (laws : Lawful M) (f : ℕ → ℕ) where
   from-term n x (Minus e) z h = (h, h)
 
   module _ (P : ℕ → State) (l : ℕ) (p : Path M f P (suc l)) where
-    least-term : (q : ℕ) → q < l → worded M f P l ≤ term M f (P q) (P (suc q)) (P (suc (suc q)))
-    unfolding worded
+    least-term : (q : ℕ) → q < l → leastTerm M f P l ≤ term M f (P q) (P (suc q)) (P (suc (suc q)))
+    unfolding leastTerm
     least-term q h = least-le (λ q. true) (λ q. term M f (P q) (P (suc q)) (P (suc (suc q)))) (term M f (P 0) (P 1) (P 2)) l q h refl
 
-    some-term : 0 < l → (q : ℕ) × (q < l) × (worded M f P l ≡ term M f (P q) (P (suc q)) (P (suc (suc q))))
-    unfolding worded
+    some-term : 0 < l → (q : ℕ) × (q < l) × (leastTerm M f P l ≡ term M f (P q) (P (suc q)) (P (suc (suc q))))
+    unfolding leastTerm
     some-term h =
         elim (least-at (λ q. true) (λ q. term M f (P q) (P (suc q)) (P (suc (suc q)))) (term M f (P 0) (P 1) (P 2)) l) [
           | inl e ↦ (0, h, e)
           | inr e ↦ (e .0, e .1, e .3)
         ]
 
-    in-at : (q : ℕ) → q < suc l → PartIn M f (worded M f P l) (P q) (P (suc q))
-    in-at zero h = subst⁻¹ (λ x. PartIn M f (worded M f P l) x (P 1)) (p .begin) tt
-    in-at (suc q) h = from-term (worded M f P l) (P q) (P (suc q)) (P (suc (suc q))) (least-term q (omega arith)) .1
+    in-at : (q : ℕ) → q < suc l → PartIn M f (leastTerm M f P l) (P q) (P (suc q))
+    in-at zero h = subst⁻¹ (λ x. PartIn M f (leastTerm M f P l) x (P 1)) (p .begin) tt
+    in-at (suc q) h = from-term (leastTerm M f P l) (P q) (P (suc q)) (P (suc (suc q))) (least-term q (omega arith)) .1
 
-    out-at : (q : ℕ) → q < suc l → PartOut M f (worded M f P l) (P q) (P (suc q))
+    out-at : (q : ℕ) → q < suc l → PartOut M f (leastTerm M f P l) (P q) (P (suc q))
     out-at q h =
         elim (cases-lt q l) [
-          | inl k ↦ from-term (worded M f P l) (P q) (P (suc q)) (P (suc (suc q))) (least-term q k) .0
+          | inl k ↦ from-term (leastTerm M f P l) (P q) (P (suc q)) (P (suc (suc q))) (least-term q k) .0
           | inr k ↦
               let o : suc l ≡ suc q = omega arith in
-              subst (λ i. PartOut M f (worded M f P l) (P q) (P i)) o (subst⁻¹ (λ y. PartOut M f (worded M f P l) (P q) y) (p .finish) tt)
+              subst (λ i. PartOut M f (leastTerm M f P l) (P q) (P i)) o (subst⁻¹ (λ y. PartOut M f (leastTerm M f P l) (P q) y) (p .finish) tt)
         ]
 
-    worded-le : worded M f P l ≤ lets M f P (suc l)
-    worded-le = by (lets-at M f P (suc l) (omega arith) .0) (lets-at M f P (suc l) (omega arith) .1) (lets-at M f P (suc l) (omega arith) .2)
+    term-le : leastTerm M f P l ≤ lets M f P (suc l)
+    term-le = by (lets-at M f P (suc l) (omega arith) .0) (lets-at M f P (suc l) (omega arith) .1) (lets-at M f P (suc l) (omega arith) .2)
       where
-        by : (q : ℕ) → q < suc l → lets M f P (suc l) ≡ amount M f (P q) (P (suc q)) → worded M f P l ≤ lets M f P (suc l)
+        by : (q : ℕ) → q < suc l → lets M f P (suc l) ≡ amount M f (P q) (P (suc q)) → leastTerm M f P l ≤ lets M f P (suc l)
         by q h e =
             omega (
               arith,
               e,
-              join (worded M f P l) (P q) (P (suc q)) (p .ok q (omega arith)) (p .ok (suc q) (omega arith)) (p .meet q h) (p .some q h) (in-at q h) (out-at q h),
+              join (leastTerm M f P l) (P q) (P (suc q)) (p .ok q (omega arith)) (p .ok (suc q) (omega arith)) (p .meet q h) (p .some q h) (in-at q h) (out-at q h),
             )
 
     lets-term : (q : ℕ) → q < l → lets M f P (suc l) ≤ term M f (P q) (P (suc q)) (P (suc (suc q)))
@@ -144,21 +143,22 @@ module _ (M : Meaning) (laws : Lawful M) (f : ℕ → ℕ) where
         (part-in (lets M f P (suc l)) (P (suc q)) (P (suc (suc q))) (p .ok (suc q) (omega arith)) (p .ok (suc (suc q)) (omega arith)) (p .meet (suc q) (omega arith))
         (lets-le M f P (suc l) (suc q) (omega arith)))
 
-    lets-worded : 0 < l → lets M f P (suc l) ≤ worded M f P l
-    lets-worded h = by (some-term h .0) (some-term h .1) (some-term h .2)
+    lets-least : 0 < l → lets M f P (suc l) ≤ leastTerm M f P l
+    lets-least h = by (some-term h .0) (some-term h .1) (some-term h .2)
       where
-        by : (q : ℕ) → q < l → worded M f P l ≡ term M f (P q) (P (suc q)) (P (suc (suc q))) → lets M f P (suc l) ≤ worded M f P l
+        by : (q : ℕ) → q < l → leastTerm M f P l ≡ term M f (P q) (P (suc q)) (P (suc (suc q))) → lets M f P (suc l) ≤ leastTerm M f P l
         by q k e = omega (arith, e, lets-term q k)
 
   -- a path has a lane
-  one-lane : (P : ℕ → State) (l : ℕ) → Path M f P (suc l) → 0 < l
+  pub one-lane : (P : ℕ → State) (l : ℕ) → Path M f P (suc l) → 0 < l
   one-lane P zero p =
       let s : 0 < amount M f (P 0) (Pole true) = subst (λ y. 0 < amount M f (P 0) y) (p .finish) (p .some 0 (omega arith)) in
       let t : 0 < amount M f (Pole false) (Pole true) = subst (λ x. 0 < amount M f x (Pole true)) (p .begin) s in
       absurd (omega (arith, t))
   one-lane P (suc l) p = omega arith
 
-pub rules-amount : Rules-amount
+pub rules-amount : (M : Meaning) (f : ℕ → ℕ) (l e : ℕ) (t : List Mark) → Lawful M → Fits M f → label (ruled M f) (M .floor .lanes) ≡ Ended l e t
+    → leastTerm M f (path l e t) l ≡ lets M f (path l e t) (suc l)
 rules-amount M f l e t laws fits q =
     let p = rules-find M f l e t laws fits q .path in
-    omega (arith, worded-le M laws f (path l e t) l p, lets-worded M laws f (path l e t) l p (one-lane M laws f (path l e t) l p))
+    omega (arith, term-le M laws f (path l e t) l p, lets-least M laws f (path l e t) l p (one-lane M laws f (path l e t) l p))

@@ -1,0 +1,30 @@
+-- The cut that the labels show when no path is left.
+use mathlib.Core.Bool.{Bool, true, false, not, _&&_, _||_}
+use mathlib.Core.List.{List}
+use Prim.Native.Nat.{ℕ}
+use lib.Dec.{eqb, ltb}
+use Rattle.polymatroid.specs.Finite.{first}
+use Rattle.floor.specs.Floor.{leaving, entering, stock}
+use Rattle.floor.specs.Meaning.{Meaning}
+use Rattle.labelling.specs.Rules.{full}
+use Rattle.labelling.specs.Table.{Mark, mark, isPlus, isMinus}
+
+-- the lanes with +, and those with -
+abbrev pub plused : List Mark → ℕ → Bool
+plused t e = isPlus (mark t e)
+
+abbrev pub minused : List Mark → ℕ → Bool
+minused t e = isMinus (mark t e)
+
+-- lane e makes station i near: a - lane that leaves it, or a + lane that enters it without being full there
+abbrev pub nears : Meaning → (ℕ → ℕ) → List Mark → ℕ → ℕ → Bool
+nears M f t i e =
+    (minused t e && eqb (M .floor .end leaving e) i) || (plused t e && (not (full M f entering e) && eqb (M .floor .end entering e) i))
+
+-- the near stations: the stock, and those that a lane makes near
+unfoldable pub near : Meaning → (ℕ → ℕ) → List Mark → ℕ → Bool
+near M f t i = eqb (stock (M .floor)) i || ltb (first (nears M f t i) (M .floor .lanes)) (M .floor .lanes)
+
+-- of the lanes from near to far, those without a label count where they leave, the others where they enter
+abbrev pub unlabelled : List Mark → ℕ → Bool
+unlabelled t e = not (plused t e || minused t e)

@@ -158,6 +158,14 @@ module _ (M : Meaning) (f : ℕ → ℕ) where
   minus-minus Opening e g h = grind (arith, tells)
 
   -- a lane gives nothing to itself
+  own-plus : (e g : ℕ) → e ≡ g → ruled M f (Plus e) (Minus g) ≡ true → ⊥
+  unfolding ruled
+  own-plus e g o h = let n = eq-eqb e g o in grind (arith, tells)
+
+  own-minus : (e g : ℕ) → e ≡ g → ruled M f (Minus e) (Plus g) ≡ true → ⊥
+  unfolding ruled
+  own-minus e g o h = let n = eq-eqb e g o in grind (arith, tells)
+
   apart : Lawful M → (x y : State) (e g : ℕ) → g < M .floor .lanes → ruled M f x y ≡ true → (x ≡ Plus e) ⊎ (x ≡ Minus e) → (y ≡ Plus g) ⊎ (y ≡ Minus g) → not (eqb e g) ≡ true
   apart laws x y e g l h p q = not-from-false (eqb e g) (ne-eqb e g (λ o. by x y h o p q))
     where
@@ -169,15 +177,7 @@ module _ (M : Meaning) (f : ℕ → ℕ) where
           let c = to-case x y h e g (inr p) (inr q) in
           laws .rules .ends-differ false g l (ap (M .floor .end false) (sym o) ∙ sym (ap (at M true) p) ∙ meets (c .0) x y (c .1) ∙ ap (at M false) q)
       by x y h o (inl p) (inr q) = own-plus e g o (subst (λ x. ruled M f x (Minus g) ≡ true) p (subst (λ y. ruled M f x y ≡ true) q h))
-        where
-          own-plus : (e g : ℕ) → e ≡ g → ruled M f (Plus e) (Minus g) ≡ true → ⊥
-          unfolding ruled
-          own-plus e g o h = let n = eq-eqb e g o in grind (arith, tells)
       by x y h o (inr p) (inl q) = own-minus e g o (subst (λ x. ruled M f x (Plus g) ≡ true) p (subst (λ y. ruled M f x y ≡ true) q h))
-        where
-          own-minus : (e g : ℕ) → e ≡ g → ruled M f (Minus e) (Plus g) ≡ true → ⊥
-          unfolding ruled
-          own-minus e g o h = let n = eq-eqb e g o in grind (arith, tells)
 
   module _ (laws : Lawful M) (cs : List Case) (hp : Listed FullPlus cs) (hm : Listed FullMinus cs) (ho : Listed Opening cs) where
     in-list : (c : Case) → Listed c cs

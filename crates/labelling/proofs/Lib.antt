@@ -15,3 +15,5 @@ pub mod Best
 pub mod Same
 pub mod AnyOrder
 pub mod Sweep
+pub mod Tests
+pub mod Worked

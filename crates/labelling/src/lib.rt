@@ -3,6 +3,7 @@
 // they promise. What a move does to a floor is the matter of the crate network.
 ghost use Rattle.labelling.specs.Theorems.{First-shortest-path, Moves-keep-plans-feasible, Moves-are-few, Finished-is-best, Path-missing-when-best, Any-order};
 ghost use Rattle.labelling.specs.Sweep.{Sweeps-agree};
+ghost use Rattle.labelling.specs.Worked.{Worked-floors};
 
 // A step finds the first shortest augmenting path; where it finds none, there is none.
 pub fn first_shortest_path()
@@ -43,5 +44,11 @@ pub fn any_order_of_cases()
 // A table that changes while its level is scanned has the labels of the rules.
 pub fn sweeps_agree()
     ensures { λ _. ⌜ Sweeps-agree ⌝ }
+{
+}
+
+// On the worked floors the definitions, evaluated, give the moves, amounts and totals that are written there.
+pub fn worked_floors_hold()
+    ensures { λ _. ⌜ Worked-floors ⌝ }
 {
 }

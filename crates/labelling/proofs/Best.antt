@@ -10,7 +10,7 @@ use Rattle.network.specs.States.{State}
 use Rattle.network.specs.Feasible.{Fits}
 use Rattle.network.specs.Cuts.{Balanced, FitsBy, total, capacity}
 use Rattle.network.proofs.Cuts.{cut-bounds}
-use Rattle.network.proofs.Finished.{stock-near, despatch-far}
+use Rattle.network.proofs.Closed.{stock-near, despatch-far}
 use Rattle.labelling.specs.Rules.{ruled}
 use Rattle.labelling.specs.Table.{Mark, Finished, label}
 use Rattle.labelling.specs.Augmenting.{Augments}

@@ -19,7 +19,8 @@ use Rattle.network.proofs.Finished.{finished-best}
 use Rattle.labelling.specs.Rules.{full, ruled, Carries}
 use Rattle.labelling.specs.Table.{Mark, None, Mk, signed, mark, isPlus, isMinus, tab, Finished, label, Sits}
 use Rattle.labelling.specs.Near.{nears, near, plused, minused, unlabelled}
-use Rattle.labelling.proofs.Scan.{none-mk, cases-mark, Good}
+use Rattle.labelling.proofs.Scan.{none-mk, cases-mark}
+use Rattle.labelling.proofs.Levels.{Good}
 use Rattle.labelling.proofs.Rules.{full-some, some-full}
 use Rattle.labelling.proofs.Outcomes.{Unended, Done, Right, label-right}
 use Rattle.labelling.proofs.Finds.{T, good, lane-ok, sound, to-gives, from-gives, start-only, not-ended}

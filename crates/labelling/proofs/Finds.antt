@@ -15,7 +15,8 @@ use Rattle.network.specs.Labelling.{holder, Gives, Labelled, Found}
 use Rattle.network.proofs.Labelling.{found}
 use Rattle.labelling.specs.Rules.{ruled, Carries}
 use Rattle.labelling.specs.Table.{Mark, None, Mk, signed, mark, isAt, stateOf, nameOf, name, back, path, tab, Ended, Finished, label, Sits, SitsEnd}
-use Rattle.labelling.proofs.Scan.{none-mk, cases-mark, state-sits, Good, good-tab, sits-down}
+use Rattle.labelling.proofs.Scan.{none-mk, cases-mark, state-sits}
+use Rattle.labelling.proofs.Levels.{Good, good-tab, sits-down}
 use Rattle.labelling.proofs.Rules.{rules-give}
 use Rattle.labelling.proofs.Outcomes.{Unended, Ran, Right, label-right}
 

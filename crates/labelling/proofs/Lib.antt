@@ -1,4 +1,5 @@
 pub mod Scan
+pub mod Levels
 pub mod Rules
 pub mod Outcomes
 pub mod Finds

@@ -13,7 +13,8 @@ use Rattle.levels.proofs.Counting.{pigeonhole-all}
 use Rattle.network.specs.States.{State, Pole, Plus, Minus}
 use Rattle.network.specs.Stages.{num}
 use Rattle.labelling.specs.Table.{Mark, None, Mk, signed, mark, isAt, stateOf, pass, tab, ender, some-at, Outcome, Ended, Finished, go, label, Sits}
-use Rattle.labelling.proofs.Scan.{none-mk, cases-mark, lane-of, state-sits, Good, good-tab, sits-down, mark-up}
+use Rattle.labelling.proofs.Scan.{none-mk, cases-mark, lane-of, state-sits}
+use Rattle.labelling.proofs.Levels.{Good, good-tab, sits-down, mark-up}
 
 -- no label of level j ends a path
 abbrev pub Unended : (State → State → Bool) → ℕ → ℕ → Type 0

@@ -165,7 +165,7 @@ module _ (r : State → State → Bool) where
         let o = lane-of t l x sx in
         both-ways (r x (signed b y)) (subst (λ x. r x (signed b y) ≡ false) (o .1) (h (num x) (below x sx) (o .0) b)) rx
 
-    passed-suc : Passed r m (suc l) t (pass r m (suc l) t)
+    pub passed-suc : Passed r m (suc l) t (pass r m (suc l) t)
     unfolding pass
     passed-suc = record {
       keeps = λ y s z k h q. listed-is (scanned r t (suc l) m) m y h ∙ kept t (suc l) y m s z k q;
@@ -223,7 +223,7 @@ module _ (r : State → State → Bool) where
     unfolding Start
     start-none y h x b sx rx = both-ways (r (Pole false) (signed b y)) (h b) (subst (λ x. r x (signed b y) ≡ true) (start-only x sx) rx)
 
-    passed-zero : Passed r m 0 [] (pass r m 0 [])
+    pub passed-zero : Passed r m 0 [] (pass r m 0 [])
     unfolding pass given
     passed-zero = record {
       keeps = λ y s z k h q. none-mk (mark [] y) s z k (mark-nil y) q;
@@ -231,151 +231,3 @@ module _ (r : State → State → Bool) where
       none = λ y h o. start-none y (subst (Start y) (sym (listed-is given m y h) ∙ o) (start-told y));
       off = λ y h. listed-off given m 0 y h;
     }
-
--- what holds of a table with the levels up to l
-pub record Good (r : State → State → Bool) (m l : ℕ) (t : List Mark) : Type 0 where
-  pub off : (y : ℕ) → m ≤ y → mark t y ≡ None
-  pub some : (y : ℕ) (s : Bool) (z : State) (k : ℕ) → mark t y ≡ Mk s z k → 0 < k
-  pub most : (y : ℕ) (s : Bool) (z : State) (k : ℕ) → mark t y ≡ Mk s z k → k ≤ l
-  pub by : (y : ℕ) (s : Bool) (z : State) (i : ℕ) → mark t y ≡ Mk s z (suc i) → r z (signed s y) ≡ true
-  pub up : (y : ℕ) (s : Bool) (z : State) (i : ℕ) → mark t y ≡ Mk s z (suc i) → Sits t i z
-  pub lowest : (y : ℕ) (s : Bool) (z : State) (i : ℕ) → mark t y ≡ Mk s z (suc i) → (x : State) (b : Bool) → Sits t i x → r x (signed b y) ≡ true → num z ≤ num x
-  pub all : (i : ℕ) (x : State) (y : ℕ) (b : Bool) → i < l → y < m → Sits t i x → r x (signed b y) ≡ true
-      → (s : Bool) × (z : State) × (k : ℕ) × (k ≤ suc i) × (mark t y ≡ Mk s z k)
-
-module _ (r : State → State → Bool) (m : ℕ) where
-  module _ (l : ℕ) (t u : List Mark) (g : Good r m l t) (p : Passed r m l t u) where
-    lane-below : (v : List Mark) → ((y : ℕ) → m ≤ y → mark v y ≡ None) → (y : ℕ) (s : Bool) (z : State) (k : ℕ) → mark v y ≡ Mk s z k → y < m
-    lane-below v o y s z k q = elim (cases-lt y m) [ inl h ↦ h | inr h ↦ none-mk (mark v y) s z k (o y (omega arith)) q ]
-
-    on : (y : ℕ) (s : Bool) (z : State) (k : ℕ) → mark t y ≡ Mk s z k → mark u y ≡ Mk s z k
-    on y s z k q = p .keeps y s z k (lane-below t (g .off) y s z k q) q
-
-    -- a label is an old one or a fresh one
-    which : (y : ℕ) (s : Bool) (z : State) (k : ℕ) → mark u y ≡ Mk s z k → (mark t y ≡ Mk s z k) ⊎ ((y < m) × (mark t y ≡ None))
-    which y s z k q =
-        elim (cases-mark (mark t y)) [
-          | inl o ↦ inr (lane-below u (p .off) y s z k q, o)
-          | inr o ↦ inl (o .3 ∙ sym (on y (o .0) (o .1) (o .2) (o .3)) ∙ q)
-        ]
-
-    back-at : (y : ℕ) (s : Bool) (z : State) (k : ℕ) → k ≤ l → mark u y ≡ Mk s z k → mark t y ≡ Mk s z k
-    back-at y s z k h q =
-        elim (which y s z k q) [
-          | inl o ↦ o
-          | inr o ↦ absurd (omega (arith, p .fresh y s z k (o .0) (o .1) q .0))
-        ]
-
-    sits-on : (i : ℕ) (x : State) → Sits t i x → Sits u i x
-    sits-on i (Pole false) s = s
-    sits-on i (Pole true) s = s
-    sits-on i (Plus e) s = (s .0, on e true (s .0) i (s .1))
-    sits-on i (Minus e) s = (s .0, on e false (s .0) i (s .1))
-
-    sits-back : (i : ℕ) (x : State) → i ≤ l → Sits u i x → Sits t i x
-    sits-back i (Pole false) h s = s
-    sits-back i (Pole true) h s = s
-    sits-back i (Plus e) h s = (s .0, back-at e true (s .0) i h (s .1))
-    sits-back i (Minus e) h s = (s .0, back-at e false (s .0) i h (s .1))
-
-    next-most : (y : ℕ) (s : Bool) (z : State) (k : ℕ) → mark u y ≡ Mk s z k → k ≤ suc l
-    next-most y s z k q =
-        elim (which y s z k q) [
-          | inl o ↦ omega (arith, g .most y s z k o)
-          | inr o ↦ omega (arith, p .fresh y s z k (o .0) (o .1) q .0)
-        ]
-
-    next-up : (y : ℕ) (s : Bool) (z : State) (i : ℕ) → mark u y ≡ Mk s z (suc i) → Sits u i z
-    next-up y s z i q =
-        elim (which y s z (suc i) q) [
-          | inl o ↦ sits-on i z (g .up y s z i o)
-          | inr o ↦
-              let a = p .fresh y s z (suc i) (o .0) (o .1) q in
-              sits-on i z (subst (λ j. Sits t j z) (omega (arith, a .0)) (a .1))
-        ]
-
-    next-lowest : (y : ℕ) (s : Bool) (z : State) (i : ℕ) → mark u y ≡ Mk s z (suc i) → (x : State) (b : Bool) → Sits u i x → r x (signed b y) ≡ true → num z ≤ num x
-    next-lowest y s z i q x b sx rx =
-        elim (which y s z (suc i) q) [
-          | inl o ↦ g .lowest y s z i o x b (sits-back i x (omega (arith, g .most y s z (suc i) o)) sx) rx
-          | inr o ↦
-              let a = p .fresh y s z (suc i) (o .0) (o .1) q in
-              let il : i ≡ l = omega (arith, a .0) in
-              a .3 x b (subst (λ j. Sits t j x) il (sits-back i x (omega arith) sx)) rx
-        ]
-
-    next-all : (i : ℕ) (x : State) (y : ℕ) (b : Bool) → i < suc l → y < m → Sits u i x → r x (signed b y) ≡ true
-        → (s : Bool) × (z : State) × (k : ℕ) × (k ≤ suc i) × (mark u y ≡ Mk s z k)
-    next-all i x y b h ym sx rx =
-        elim (cases-lt i l) [
-          | inl il ↦
-              let a = g .all i x y b il ym (sits-back i x (omega arith) sx) rx in
-              (a .0, a .1, a .2, a .3, on y (a .0) (a .1) (a .2) (a .4))
-          | inr il ↦
-              elim (cases-mark (mark u y)) [
-                | inl o ↦
-                    let e : i ≡ l = omega arith in
-                    absurd (p .none y ym o x b (subst (λ j. Sits t j x) e (sits-back i x (omega arith) sx)) rx)
-                | inr o ↦ (o .0, o .1, o .2, omega (arith, next-most y (o .0) (o .1) (o .2) (o .3)), o .3)
-              ]
-        ]
-
-    good-next : Good r m (suc l) u
-    good-next = record {
-      off = p .off;
-      some = λ y s z k q.
-          elim (which y s z k q) [
-            | inl o ↦ g .some y s z k o
-            | inr o ↦ omega (arith, p .fresh y s z k (o .0) (o .1) q .0)
-          ];
-      most = next-most;
-      by = λ y s z i q.
-          elim (which y s z (suc i) q) [
-            | inl o ↦ g .by y s z i o
-            | inr o ↦ p .fresh y s z (suc i) (o .0) (o .1) q .2
-          ];
-      up = next-up;
-      lowest = next-lowest;
-      all = next-all;
-    }
-
-  good-nil : Good r m 0 []
-  unfolding mark
-  good-nil = record {
-    off = λ y h. refl;
-    some = λ y s z k q. none-mk None s z k refl q;
-    most = λ y s z k q. none-mk None s z k refl q;
-    by = λ y s z i q. none-mk None s z (suc i) refl q;
-    up = λ y s z i q. none-mk None s z (suc i) refl q;
-    lowest = λ y s z i q. none-mk None s z (suc i) refl q;
-    all = λ i x y b h. absurd (omega arith);
-  }
-
-  pub good-tab : (l : ℕ) → Good r m l (tab r m l)
-  unfolding tab
-  good-tab zero = good-nil
-  good-tab (suc zero) = good-next 0 [] (pass r m 0 []) good-nil (passed-zero r m)
-  good-tab (suc (suc l)) =
-      good-next (suc l) (tab r m (suc l)) (pass r m (suc l) (tab r m (suc l))) (good-tab (suc l)) (passed-suc r m l (tab r m (suc l)) (good-tab (suc l) .off))
-
-  pub passed-tab : (l : ℕ) → Passed r m l (tab r m l) (tab r m (suc l))
-  unfolding tab
-  passed-tab zero = passed-zero r m
-  passed-tab (suc l) = passed-suc r m l (tab r m (suc l)) (good-tab (suc l) .off)
-
-  -- a label of level j is in the table of level j, and stays
-  pub sits-down : (l j : ℕ) (x : State) → j ≤ l → Sits (tab r m l) j x → Sits (tab r m j) j x
-  sits-down zero j x h s = let e : 0 ≡ j = omega arith in subst (λ k. Sits (tab r m k) j x) e s
-  sits-down (suc l) j x h s =
-      elim (cases-lt j (suc l)) [
-        | inl q ↦ sits-down l j x (omega arith) (sits-back l (tab r m l) (tab r m (suc l)) (good-tab l) (passed-tab l) j x (omega arith) s)
-        | inr q ↦ let e : suc l ≡ j = omega arith in subst (λ k. Sits (tab r m k) j x) e s
-      ]
-
-  pub mark-up : (l j y : ℕ) (s : Bool) (z : State) (k : ℕ) → j ≤ l → mark (tab r m j) y ≡ Mk s z k → mark (tab r m l) y ≡ Mk s z k
-  mark-up zero j y s z k h q = let e : j ≡ 0 = omega arith in subst (λ i. mark (tab r m i) y ≡ Mk s z k) e q
-  mark-up (suc l) j y s z k h q =
-      elim (cases-lt j (suc l)) [
-        | inl o ↦ on l (tab r m l) (tab r m (suc l)) (good-tab l) (passed-tab l) y s z k (mark-up l j y s z k (omega arith) q)
-        | inr o ↦ let e : j ≡ suc l = omega arith in subst (λ i. mark (tab r m i) y ≡ Mk s z k) e q
-      ]

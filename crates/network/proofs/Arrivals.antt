@@ -1,4 +1,4 @@
--- A path at the lanes that enter a station k: a move there is a `Move` of the side.
+-- A path at the lanes that enter a station k: pairs by a full arrival, whose exchanges are sound, and the open pair.
 use mathlib.Core.Path.{_≡_, refl, sym, ap, subst, subst⁻¹, _∙_}
 use mathlib.Core.Bool.{Bool, true, false, cond, not, _&&_}
 use mathlib.Core.List.{List, [], _∷_, map}
@@ -75,7 +75,7 @@ module _ (M : Meaning) (f : ℕ → ℕ) (P : ℕ → State) (k : ℕ) where
   unfoldable pub swaps : ℕ → ℕ → List Swap
   swaps a c = map swapAt (hits isH a c)
 
-turn-cond : (K : ℕ) (C w : ℕ → ℕ) (u v : ℕ) (sw : ℕ → Swap) (b : Bool) (a : ℕ) (H : List ℕ)
+pub turn-cond : (K : ℕ) (C w : ℕ → ℕ) (u v : ℕ) (sw : ℕ → Swap) (b : Bool) (a : ℕ) (H : List ℕ)
     → (b ≡ true → Clear K C w (sw a .up) u v)
     → (b ≡ true → All (λ s. Clear K C w (sw a .up) (s .up) (s .down)) (map sw H))
     → InTurn K C w u v (map sw H) → InTurn K C w u v (map sw (cond b (a ∷ H) H))
@@ -174,7 +174,7 @@ module _ (M : Meaning) (laws : Lawful M) (f : ℕ → ℕ) (fits : Fits M f) (P 
   full-here e q z = sym (room-all e q) ∙ z
 
   -- a full lane e steps to each lane of its tight set that carries trays
-  tight-step : (e g : ℕ) → e < M .floor .lanes → g < M .floor .lanes → M .floor .end true e ≡ k → M .floor .end true g ≡ k → 0 < f g
+  pub tight-step : (e g : ℕ) → e < M .floor .lanes → g < M .floor .lanes → M .floor .end true e ≡ k → M .floor .end true g ≡ k → 0 < f g
       → In (tightAt M f k (place (M .floor) true k e)) (place (M .floor) true k g) → Step M f (Plus e) (Minus g)
   tight-step e g le lg a b h i = record {
     ok-from = le;
@@ -205,7 +205,7 @@ module _ (M : Meaning) (laws : Lawful M) (f : ℕ → ℕ) (fits : Fits M f) (P 
   unfolding swapAt posPlus posMinus
   swap-is q h = λ i. record { up = posPlus M k (h .from i); down = posMinus M k (h .to i) }
 
-  member : (q : ℕ) → q < N → (h : Held M f P k q) → In (tightAt M f k (place (M .floor) true k (h .e))) (place (M .floor) true k (h .g))
+  pub member : (q : ℕ) → q < N → (h : Held M f P k q) → In (tightAt M f k (place (M .floor) true k (h .e))) (place (M .floor) true k (h .g))
   member q l h =
       member-from-room (count (M .floor) true k) (M .cap true k) caps (trays M f true k) trays-fit (place (M .floor) true k (h .e)) (place (M .floor) true k (h .g))
       (there (h .e) (h .e-lane) (h .e-there)) (full-here (h .e) (h .e-there) (h .full))
@@ -224,7 +224,7 @@ module _ (M : Meaning) (laws : Lawful M) (f : ℕ → ℕ) (fits : Fits M f) (P 
     amount = omega (arith, held-amount q h);
   }
 
-  sound : (n q : ℕ) → q < N → n ≤ amount M f (P q) (P (suc q)) → isH M f P k q ≡ true
+  pub sound : (n q : ℕ) → q < N → n ≤ amount M f (P q) (P (suc q)) → isH M f P k q ≡ true
       → Sound (count (M .floor) true k) (M .cap true k) (trays M f true k) n (swapAt M f P k q)
   sound n q l m t =
       let h = held q l t in
@@ -232,245 +232,3 @@ module _ (M : Meaning) (laws : Lawful M) (f : ℕ → ℕ) (fits : Fits M f) (P 
 
   pub carried : (q : ℕ) → q < N → (h : Held M f P k q) → 0 < f (h .g)
   carried q l h = omega (arith, path .some q l, held-amount q h)
-
-  -- its tight set is clear of a later exchange
-  clear-down : (q r : ℕ) → q < r → r < N → (h : Held M f P k q) (j : Held M f P k r)
-      → Out (tightAt M f k (place (M .floor) true k (h .e))) (place (M .floor) true k (j .g))
-  clear-down q r l m h j =
-      elim (cases-bool (has (tightAt M f k (place (M .floor) true k (h .e))) (place (M .floor) true k (j .g)))) [
-        | inl y ↦
-            let s = tight-step (h .e) (j .g) (h .e-lane) (j .g-lane) (h .e-there) (j .g-there) (carried r m j) y in
-            absurd (omega (arith, path .short q (suc r) (omega arith) m (rw (h .from, j .to) s)))
-        | inr y ↦ y
-      ]
-
-  clear-up : (q r : ℕ) → q < r → r < N → (h : Held M f P k q) (j : Held M f P k r)
-      → Out (tightAt M f k (place (M .floor) true k (h .e))) (place (M .floor) true k (j .e))
-  clear-up q r l m h j =
-      elim (cases-bool (has (tightAt M f k (place (M .floor) true k (h .e))) (place (M .floor) true k (j .e)))) [
-        | inl y ↦
-            let t = full-tight (count (M .floor) true k) (M .cap true k) caps (trays M f true k) trays-fit (place (M .floor) true k (h .e))
-            (there (h .e) (h .e-lane) (h .e-there)) (full-here (h .e) (h .e-there) (h .full)) in
-            absurd (both-ways (has (tightAt M f k (place (M .floor) true k (h .e))) (place (M .floor) true k (j .g))) (clear-down q r l m h j)
-            (tightSet-nested (count (M .floor) true k) (M .cap true k) caps (trays M f true k) trays-fit
-            (place (M .floor) true k (h .e)) (place (M .floor) true k (j .e)) (tightAt M f k (place (M .floor) true k (h .e))) (t .0) (t .1) y
-            (place (M .floor) true k (j .g)) (member r m j)))
-        | inr y ↦ y
-      ]
-
-  pub tight-held : (q : ℕ) (h : Held M f P k q)
-      → Tight (count (M .floor) true k) (M .cap true k) (trays M f true k) (tightAt M f k (place (M .floor) true k (h .e)))
-      × In (tightAt M f k (place (M .floor) true k (h .e))) (place (M .floor) true k (h .e))
-  tight-held q h =
-      full-tight (count (M .floor) true k) (M .cap true k) caps (trays M f true k) trays-fit (place (M .floor) true k (h .e))
-      (there (h .e) (h .e-lane) (h .e-there)) (full-here (h .e) (h .e-there) (h .full))
-
-  clear-none : (q : ℕ) (h : Held M f P k q) → Out (tightAt M f k (place (M .floor) true k (h .e))) (count (M .floor) true k)
-  clear-none q h = has-past (count (M .floor) true k) (tightAt M f k (place (M .floor) true k (h .e))) (count (M .floor) true k) (tight-held q h .0 .set) (omega arith)
-
-  -- a pair by a full arrival does not come after the open pair
-  before-u : (q r : ℕ) → q < N → r < N → Held M f P k q → isH M f P k q ≡ true → isU M f P k r ≡ true → q < r
-  unfolding isH
-  before-u q r l m h t u =
-      elim (cases-lt q r) [
-        | inl a ↦ a
-        | inr a ↦
-            elim (cases-eq r q) [
-              | inl b ↦ absurd (both-ways (byArrival M f (P q) (P (suc q))) (subst (λ r. byArrival M f (P r) (P (suc r)) ≡ false) b (here-u r u .1)) (arrival q t))
-              | inr b ↦
-                  absurd (order r q (omega arith) l (here-u r u .0) (here-h q t) (u-open r m u .0) (subst⁻¹ (Free M f) (h .to) (carried q l h)))
-            ]
-      ]
-    where
-      arrival : (q : ℕ) → isH M f P k q ≡ true → byArrival M f (P q) (P (suc q)) ≡ true
-      arrival q t = and-parts (eqb (at M true (P q)) k) (byArrival M f (P q) (P (suc q))) t .1
-
-  -- and of the open pair
-  clear-v : (q r : ℕ) → q < r → r < N → (h : Held M f P k q) → isU M f P k r ≡ true → (y : State) → P (suc r) ≡ y
-      → Out (tightAt M f k (place (M .floor) true k (h .e))) (posMinus M k y)
-  unfolding posMinus
-  clear-v q r l m h u (Pole b) c = clear-none q h
-  clear-v q r l m h u (Plus g) c = clear-none q h
-  clear-v q r l m h u (Minus g) c =
-      elim (cases-bool (has (tightAt M f k (place (M .floor) true k (h .e))) (place (M .floor) true k g))) [
-        | inl y ↦
-            let g-there : M .floor .end true g ≡ k = subst (λ z. at M false z ≡ k) c (sym (path .meet r m) ∙ here-u r u .0) in
-            let s = tight-step (h .e) g (h .e-lane) (subst (Ok M) c (path .ok (suc r) m)) (h .e-there) g-there
-            (subst (Free M f) c (u-open r m u .1)) y in
-            absurd (omega (arith, path .short q (suc r) (omega arith) m (rw (h .from, c) s)))
-        | inr y ↦ y
-      ]
-
-  clear-u : (q r : ℕ) → r < N → (h : Held M f P k q) → isU M f P k r ≡ true → (x : State) → P r ≡ x
-      → Out (tightAt M f k (place (M .floor) true k (h .e))) (posPlus M k x)
-  unfolding posPlus
-  clear-u q r m h u (Pole b) c = clear-none q h
-  clear-u q r m h u (Minus g) c = clear-none q h
-  clear-u q r m h u (Plus a) c =
-      elim (cases-bool (has (tightAt M f k (place (M .floor) true k (h .e))) (place (M .floor) true k a))) [
-        | inl y ↦
-            let a-there : M .floor .end true a ≡ k = subst (λ z. at M true z ≡ k) c (here-u r u .0) in
-            let z = tight-full (count (M .floor) true k) (M .cap true k) caps (trays M f true k) trays-fit (place (M .floor) true k a)
-            (tightAt M f k (place (M .floor) true k (h .e))) (tight-held q h .0) y in
-            absurd (omega (arith, room-all a a-there, z, subst (Open M f) c (u-open r m u .0)))
-        | inr y ↦ y
-      ]
-
-  -- the tight set of an exchange is clear of the ends
-  clear-ends : (q : ℕ) → q < N → isH M f P k q ≡ true
-      → Clear (count (M .floor) true k) (M .cap true k) (trays M f true k) (swapAt M f P k q .up) (endUp M f P k N) (endDown M f P k N)
-  unfolding endUp endDown theU
-  clear-ends q l t =
-      let h = held q l t in
-      let i : ℕ = first (isU M f P k) N in
-      rw (ap (λ s. s .up) (swap-is q h))
-      (elim (cases-lt i N) [
-        | inl m ↦
-            let u = first-passes (isU M f P k) N m in
-            let b = before-u q i l m h t u in
-            rw (lt-ltb i N m) (clear-u q i m h u (P i) refl, clear-v q i b m h u (P (suc i)) refl)
-        | inr m ↦ rw (le-ltb i N m) (clear-none q h, clear-none q h)
-      ])
-
-  clear-later : (q r : ℕ) → q < r → r < N → isH M f P k q ≡ true → isH M f P k r ≡ true
-      → Clear (count (M .floor) true k) (M .cap true k) (trays M f true k) (swapAt M f P k q .up) (swapAt M f P k r .up) (swapAt M f P k r .down)
-  clear-later q r l m t s =
-      let h = held q (omega arith) t in
-      let j = held r m s in
-      rw (ap (λ s. s .up) (swap-is q h), ap (λ s. s .up) (swap-is r j), ap (λ s. s .down) (swap-is r j))
-      (clear-up q r l m h j, clear-down q r l m h j)
-
-  in-turn : (a c : ℕ) → a + c ≤ N
-      → InTurn (count (M .floor) true k) (M .cap true k) (trays M f true k) (endUp M f P k N) (endDown M f P k N) (swaps M f P k a c)
-  unfolding swaps hits
-  in-turn a zero l = tt
-  in-turn a (suc c) l =
-      turn-cond (count (M .floor) true k) (M .cap true k) (trays M f true k) (endUp M f P k N) (endDown M f P k N) (swapAt M f P k)
-      (isH M f P k a) a (hits (isH M f P k) (suc a) c)
-      (clear-ends a (omega arith))
-      (λ t. all-map (λ s. Clear (count (M .floor) true k) (M .cap true k) (trays M f true k) (swapAt M f P k a .up) (s .up) (s .down)) (swapAt M f P k)
-      (hits (isH M f P k) (suc a) c)
-      (all-hits (isH M f P k)
-      (λ r. Clear (count (M .floor) true k) (M .cap true k) (trays M f true k) (swapAt M f P k a .up) (swapAt M f P k r .up) (swapAt M f P k r .down))
-      (suc a) c (λ r x y z. clear-later a r (omega arith) (omega arith) t z)))
-      (in-turn (suc a) c (omega arith))
-
-  all-sound : (n : ℕ) → ((q : ℕ) → q < N → n ≤ amount M f (P q) (P (suc q)))
-      → All (Sound (count (M .floor) true k) (M .cap true k) (trays M f true k) n) (swaps M f P k 0 N)
-  unfolding swaps
-  all-sound n least =
-      all-map (Sound (count (M .floor) true k) (M .cap true k) (trays M f true k) n) (swapAt M f P k) (hits (isH M f P k) 0 N)
-      (all-hits (isH M f P k) (λ q. Sound (count (M .floor) true k) (M .cap true k) (trays M f true k) n (swapAt M f P k q)) 0 N
-      (λ q _ l t. sound n q (omega arith) (least q (omega arith)) t))
-
-  no-ends : (n : ℕ) → Ends (count (M .floor) true k) (M .cap true k) (trays M f true k) n (count (M .floor) true k) (count (M .floor) true k)
-  no-ends n = record {
-    up-on = omega arith;
-    down-on = omega arith;
-    apart = λ l. absurd (omega arith);
-    roomy = λ l. absurd (omega arith);
-    carries = λ l. absurd (omega arith);
-    amount = λ l. absurd (omega arith);
-  }
-
-  -- the lanes of an open pair at i
-  up-fact : (i e : ℕ) → i < N → isU M f P k i ≡ true → P i ≡ Plus e → (e < M .floor .lanes) × (M .floor .end true e ≡ k) × (0 < roomAll M f true e)
-  up-fact i e l u a =
-      (subst (Ok M) a (path .ok i (omega arith)), subst (λ z. at M true z ≡ k) a (here-u i u .0), subst (Open M f) a (u-open i l u .0))
-
-  down-fact : (i g : ℕ) → i < N → isU M f P k i ≡ true → P (suc i) ≡ Minus g → (g < M .floor .lanes) × (M .floor .end true g ≡ k)
-  down-fact i g l u a =
-      (subst (Ok M) a (path .ok (suc i) l), subst (λ z. at M false z ≡ k) a (sym (path .meet i l) ∙ here-u i u .0))
-
-  pub trays-at : (g : ℕ) → g < M .floor .lanes → M .floor .end true g ≡ k → trays M f true k (place (M .floor) true k g) ≡ f g
-  trays-at g l q = ap f (laneAt-place (M .floor) true k g l (eq-eqb (M .floor .end true g) k q))
-
-  not-full : (e : ℕ) → M .floor .end true e ≡ k → 0 < roomAll M f true e
-      → Full (count (M .floor) true k) (M .cap true k) (trays M f true k) (place (M .floor) true k e) → ⊥
-  not-full e q h z = omega (arith, room-all e q)
-
-  ends-up : (n e : ℕ) → (e < M .floor .lanes) × (M .floor .end true e ≡ k) × (0 < roomAll M f true e) → n ≤ roomAll M f true e
-      → Ends (count (M .floor) true k) (M .cap true k) (trays M f true k) n (place (M .floor) true k e) (count (M .floor) true k)
-  ends-up n e a m =
-      let t = there e (a .0) (a .1) in
-      record {
-        up-on = omega arith;
-        down-on = omega arith;
-        apart = λ l q. omega arith;
-        roomy = λ l. not-full e (a .1) (a .2);
-        carries = λ l. absurd (omega arith);
-        amount = λ l. omega (
-          arith,
-          room-all e (a .1),
-          room-but (count (M .floor) true k) (M .cap true k) caps (trays M f true k) trays-fit (place (M .floor) true k e),
-        );
-      }
-
-  ends-down : (n g : ℕ) → (g < M .floor .lanes) × (M .floor .end true g ≡ k) → n ≤ f g
-      → Ends (count (M .floor) true k) (M .cap true k) (trays M f true k) n (count (M .floor) true k) (place (M .floor) true k g)
-  ends-down n g a m =
-      let t = there g (a .0) (a .1) in
-      record {
-        up-on = omega arith;
-        down-on = omega arith;
-        apart = λ l. absurd (omega arith);
-        roomy = λ l. absurd (omega arith);
-        carries = λ l. omega (arith, trays-at g (a .0) (a .1));
-        amount = λ l. absurd (omega arith);
-      }
-
-  ends-both : (n e g : ℕ) → (e < M .floor .lanes) × (M .floor .end true e ≡ k) × (0 < roomAll M f true e) → (g < M .floor .lanes) × (M .floor .end true g ≡ k)
-      → (e ≡ g → ⊥) → n ≤ min (roomLess M f true e g) (f g)
-      → Ends (count (M .floor) true k) (M .cap true k) (trays M f true k) n (place (M .floor) true k e) (place (M .floor) true k g)
-  ends-both n e g a b ne m =
-      let t = there e (a .0) (a .1) in
-      let s = there g (b .0) (b .1) in
-      record {
-        up-on = omega arith;
-        down-on = omega arith;
-        apart = λ l. apart e g (a .1) (b .1) ne;
-        roomy = λ l. not-full e (a .1) (a .2);
-        carries = λ l. omega (arith, trays-at g (b .0) (b .1));
-        amount = λ l. omega (arith, ap (λ i. roomAt M f true e (place (M .floor) true i g)) (a .1), room-here M f k e (place (M .floor) true k g) (a .1));
-      }
-
-  -- the ends of the open pair at i
-  ends-at : (n i : ℕ) → i < N → n ≤ amount M f (P i) (P (suc i)) → isU M f P k i ≡ true
-      → Ends (count (M .floor) true k) (M .cap true k) (trays M f true k) n (posPlus M k (P i)) (posMinus M k (P (suc i)))
-  unfolding posPlus posMinus
-  ends-at n i l m u = by (P i) (P (suc i)) refl refl m
-    where
-      by : (x y : State) → P i ≡ x → P (suc i) ≡ y → n ≤ amount M f x y
-          → Ends (count (M .floor) true k) (M .cap true k) (trays M f true k) n (posPlus M k x) (posMinus M k y)
-      by (Pole b) (Pole d) a c m = no-ends n
-      by (Pole b) (Plus g) a c m = no-ends n
-      by (Pole false) (Minus g) a c m = ends-down n g (down-fact i g l u c) (omega arith)
-      by (Pole true) (Minus g) a c m = ends-down n g (down-fact i g l u c) (omega arith)
-      by (Plus e) (Pole false) a c m = ends-up n e (up-fact i e l u a) (omega arith)
-      by (Plus e) (Pole true) a c m = ends-up n e (up-fact i e l u a) m
-      by (Plus e) (Plus g) a c m = ends-up n e (up-fact i e l u a) (omega arith)
-      by (Plus e) (Minus g) a c m =
-          ends-both n e g (up-fact i e l u a) (down-fact i g l u c) (λ q. path .straight i l (rw (a, c) q)) m
-      by (Minus e) (Pole d) a c m = no-ends n
-      by (Minus e) (Plus g) a c m = no-ends n
-      by (Minus e) (Minus g) a c m = ends-down n g (down-fact i g l u c) (omega arith)
-
-  ends : (n : ℕ) → ((q : ℕ) → q < N → n ≤ amount M f (P q) (P (suc q)))
-      → Ends (count (M .floor) true k) (M .cap true k) (trays M f true k) n (endUp M f P k N) (endDown M f P k N)
-  unfolding endUp endDown theU
-  ends n least =
-      let i : ℕ = first (isU M f P k) N in
-      elim (cases-lt i N) [
-        | inl m ↦ rw (lt-ltb i N m) (ends-at n i m (least i m) (first-passes (isU M f P k) N m))
-        | inr m ↦ rw (le-ltb i N m) (no-ends n)
-      ]
-
-  pub move : (n : ℕ) → ((q : ℕ) → q < N → n ≤ amount M f (P q) (P (suc q)))
-      → Move (count (M .floor) true k) (M .cap true k) (trays M f true k) n (endUp M f P k N) (endDown M f P k N) (swaps M f P k 0 N)
-  move n least = record {
-    caps = caps;
-    fits = trays-fit;
-    ends = ends n least;
-    sound = all-sound n least;
-    turn = in-turn 0 N (omega arith);
-  }

@@ -1,4 +1,4 @@
--- A labelling that can label no more shows that no plan carries more.
+-- Where the labels are closed, the plan carries what their cut lets through, and no plan carries more.
 use mathlib.Core.Path.{_≡_, refl, sym, ap, ap₂, subst, subst⁻¹, _∙_}
 use mathlib.Core.Bool.{Bool, true, false, cond, not, _&&_, _||_}
 use mathlib.Core.Logic.{inl, inr, _⊎_}
@@ -26,183 +26,11 @@ use Rattle.network.proofs.Hits.{sum-same, sum-both, sum-none}
 use Rattle.network.proofs.Loads.{minus-carries}
 use Rattle.network.proofs.Visits.{Open, Free, byArrival, byDeparture, open-unless, free-unless, open-free}
 use Rattle.network.proofs.Labelling.{turn?}
-use Rattle.network.proofs.Splice.{plus-departs}
+use Rattle.network.proofs.SpliceIn.{plus-departs}
 use Rattle.network.proofs.Cuts.{setOf-below, has-setOf, load-setOf, crossing, crossing-parts, cut-bounds}
-
--- open and free, as the labelling has them
-opens-open : (M : Meaning) (f : ℕ → ℕ) (x : State) → Opens M f x → Open M f x
-opens-open M f (Pole false) o = o
-opens-open M f (Pole true) o = o
-opens-open M f (Plus e) o = o
-opens-open M f (Minus e) o = o
-
-open-opens : (M : Meaning) (f : ℕ → ℕ) (x : State) → Open M f x → Opens M f x
-open-opens M f (Pole false) o = o
-open-opens M f (Pole true) o = o
-open-opens M f (Plus e) o = o
-open-opens M f (Minus e) o = o
+use Rattle.network.proofs.Closed.{despatch-far, stock-near, label-near, back-empty, unlabelled-empty, out-full, out-tight, in-full, in-tight, in-holder}
 
 module _ (M : Meaning) (laws : Lawful M) (f : ℕ → ℕ) (fits : Fits M f) (pl mi near : ℕ → Bool) (cl : Closed M f pl mi near) where
-  -- a step from a labelled state leads to a labelled lane
-  pub step-labels : (x y : State) → Lab pl mi x → Step M f x y → LabLane pl mi y
-  step-labels x y l s =
-      elim (turn? x y) [
-        | inl t ↦ turned x y l t
-        | inr t ↦
-            elim (s .some) [
-              | inl h ↦ cl .closed x y l (record { ok-from = s .ok-from; ok-to = s .ok-to; meet = s .meet; some = h; straight = t })
-              | inr h ↦ absurd (t h)
-            ]
-      ]
-    where
-      turned : (x y : State) → Lab pl mi x → Turn x y → LabLane pl mi y
-      turned (Pole b) y l t = absurd t
-      turned (Plus e) (Pole c) l t = absurd t
-      turned (Plus e) (Plus g) l t = absurd t
-      turned (Plus e) (Minus g) l t = or-left (pl g) (mi g) (ap pl (sym t) ∙ l)
-      turned (Minus e) (Pole c) l t = absurd t
-      turned (Minus e) (Plus g) l t = or-right (pl g) (mi g) (ap mi (sym t) ∙ l)
-      turned (Minus e) (Minus g) l t = absurd t
-
-  -- from a near station each free departure has its lane labelled
-  near-labels : (y : State) → Ok M y → near (at M false y) ≡ true → Free M f y → LabLane pl mi y
-  near-labels y oy n r =
-      let a = cl .near-only (at M false y) n in
-      step-labels (a .0) y (a .2) (open-free M laws f fits (a .0) y (a .1) oy (a .4) (opens-open M f (a .0) (a .3)) r)
-
-  -- the despatch is far
-  pub despatch-far : near (M .floor .pole true) ≡ false
-  despatch-far =
-      elim (cases-bool (near (M .floor .pole true))) [ inl y ↦ absurd (near-labels (Pole true) tt y tt) | inr y ↦ y ]
-
-  pub stock-near : near (M .floor .pole false) ≡ true
-  stock-near = cl .near-if (Pole false) tt tt tt
-
-  -- a labelled state that arrives openly makes its station near
-  opened-near : (x : State) → Ok M x → Lab pl mi x → Open M f x → near (at M true x) ≡ true
-  opened-near x o l h = cl .near-if x o l (open-opens M f x h)
-
-  minus-carried : (e : ℕ) → e < M .floor .lanes → mi e ≡ true → 0 < f e
-  minus-carried e le m =
-      elim (cl .given (Minus e) le m) [
-        | inl q ↦ let z : _≡_ {A = ℕ} 0 1 = cc in absurd (omega arith)
-        | inr c ↦ omega (arith, c .2 .some, minus-carries M f (c .0) e)
-      ]
-
-  -- a labelled lane leaves a near station
-  label-near : (e : ℕ) → e < M .floor .lanes → (pl e || mi e) ≡ true → near (M .floor .end false e) ≡ true
-  label-near e le h =
-      elim (or-cases (pl e) (mi e) h) [
-        | inl p ↦
-            elim (cl .given (Plus e) le p) [
-              | inl q ↦ let z : _≡_ {A = ℕ} 0 1 = cc in absurd (omega arith)
-              | inr c ↦
-                  let g = c .2 in
-                  ap near (sym (g .meet)) ∙ opened-near (c .0) (g .ok-from) (c .1) (open-unless M f (c .0) (Plus e) (g .some) (plus-departs M f (c .0) e))
-            ]
-        | inr m ↦ opened-near (Minus e) le m (minus-carried e le m)
-      ]
-
-  -- a lane into a near station that is not labelled, or comes from a far one, is empty
-  back-empty : (e : ℕ) → e < M .floor .lanes → near (M .floor .end true e) ≡ true → near (M .floor .end false e) ≡ false → f e ≡ 0
-  back-empty e le n r =
-      elim (cases-lt 0 (f e))
-      [ inl h ↦ absurd (both-ways (near (M .floor .end false e)) r (label-near e le (near-labels (Minus e) le n h))) | inr h ↦ omega arith ]
-
-  unlabelled-empty : (e : ℕ) → e < M .floor .lanes → near (M .floor .end true e) ≡ true → (pl e || mi e) ≡ false → f e ≡ 0
-  unlabelled-empty e le n r =
-      elim (cases-lt 0 (f e)) [ inl h ↦ absurd (both-ways (pl e || mi e) r (near-labels (Minus e) le n h)) | inr h ↦ omega arith ]
-
-  -- an unlabelled lane out of a near station is full there, and its tight set is unlabelled
-  out-full : (e : ℕ) → e < M .floor .lanes → near (M .floor .end false e) ≡ true → (pl e || mi e) ≡ false → roomAll M f false e ≡ 0
-  out-full e le n r =
-      elim (cases-lt 0 (roomAll M f false e))
-      [ inl h ↦ absurd (both-ways (pl e || mi e) r (near-labels (Plus e) le n h)) | inr h ↦ omega arith ]
-
-  -- no - lane is in the tight set of an unlabelled lane out of the station that it leaves
-  no-minus : (k e h : ℕ) → k < M .floor .stations → e < M .floor .lanes → h < M .floor .lanes → M .floor .end false e ≡ k → M .floor .end false h ≡ k → (pl e || mi e) ≡ false → mi h ≡ true
-      → In (tightSet (count (M .floor) false k) (M .cap false k) (trays M f false k) (place (M .floor) false k e)) (place (M .floor) false k h) → ⊥
-  no-minus k e h kin le lh ke kh r m i =
-      let ne : e ≡ h → ⊥ = λ q. both-ways (pl e || mi e) r (or-right (pl e) (mi e) (ap mi q ∙ m)) in
-      let room′ = member-room M laws f fits false k kin e h le ke kh ne i in
-      let c = minus-carried h lh m in
-      both-ways (pl e || mi e) r
-      (cl .closed (Minus h) (Plus e) m (record { ok-from = lh; ok-to = le; meet = kh ∙ sym ke; some = omega arith; straight = λ q. ne (sym q) }))
-
-  out-tight : (k e g : ℕ) → k < M .floor .stations → e < M .floor .lanes → g < M .floor .lanes → M .floor .end false e ≡ k → M .floor .end false g ≡ k → near k ≡ true → (pl e || mi e) ≡ false
-      → In (tightSet (count (M .floor) false k) (M .cap false k) (trays M f false k) (place (M .floor) false k e)) (place (M .floor) false k g) → (pl g || mi g) ≡ false
-  out-tight k e g kin le lg ke kg n r i =
-      elim (cases-bool (pl g || mi g)) [
-        | inl y ↦
-            absurd (elim (or-cases (pl g) (mi g) y) [
-              | inl p ↦
-                  elim (cl .given (Plus g) lg p)
-                  [ inl q ↦ let z : _≡_ {A = ℕ} 0 1 = cc in omega arith | inr c ↦ by (c .0) (c .1) (c .2) ]
-              | inr m ↦ no-minus k e g kin le lg ke kg r m i
-            ])
-        | inr y ↦ y
-      ]
-    where
-      full-e : roomAll M f false e ≡ 0
-      full-e = out-full e le (ap near ke ∙ n) r
-
-      full-g : roomAll M f false g ≡ 0
-      full-g = member-full M laws f fits false k kin e le ke full-e g kg i
-
-      by : (x : State) → Lab pl mi x → Gives M f x (Plus g) → ⊥
-      by (Pole false) l c = omega (arith, c .some, full-g)
-      by (Pole true) l c = omega (arith, c .some)
-      by (Plus h) l c = omega (arith, c .some, full-g)
-      by (Minus h) l c =
-          let kh : M .floor .end false h ≡ k = c .meet ∙ kg in
-          let j = room-member M laws f fits false k kin g h lg kg full-g (omega (arith, c .some)) in
-          no-minus k e h kin le (c .ok-from) ke kh r l (member-within M laws f fits false k kin e g le ke full-e i (place (M .floor) false k h) j)
-
-  -- a + lane into a far station is full there, and the other lanes of its tight set are labelled
-  in-full : (e : ℕ) → e < M .floor .lanes → near (M .floor .end true e) ≡ false → pl e ≡ true → roomAll M f true e ≡ 0
-  in-full e le n p =
-      elim (cases-lt 0 (roomAll M f true e))
-      [ inl h ↦ absurd (both-ways (near (M .floor .end true e)) n (opened-near (Plus e) le p h)) | inr h ↦ omega arith ]
-
-  in-tight : (k e g : ℕ) → k < M .floor .stations → e < M .floor .lanes → g < M .floor .lanes → M .floor .end true e ≡ k → M .floor .end true g ≡ k → near k ≡ false → pl e ≡ true
-      → In (tightSet (count (M .floor) true k) (M .cap true k) (trays M f true k) (place (M .floor) true k e)) (place (M .floor) true k g) → (pl g || mi g) ≡ true
-  in-tight k e g kin le lg ke kg n p i =
-      elim (cases-eq e g) [
-        | inl q ↦ or-left (pl g) (mi g) (ap pl (sym q) ∙ p)
-        | inr q ↦
-            let full-e = in-full e le (ap near ke ∙ n) p in
-            let r = member-room M laws f fits true k kin e g le ke kg q i in
-            let c = member-carries M laws f fits true k kin e g le lg ke kg q full-e i in
-            cl .closed (Plus e) (Minus g) p (record { ok-from = le; ok-to = lg; meet = ke ∙ sym kg; some = omega arith; straight = q })
-      ]
-
-  -- the full + lane whose tight set a labelled lane into a far station is in
-  in-holder : (k e : ℕ) → k < M .floor .stations → e < M .floor .lanes → M .floor .end true e ≡ k → near k ≡ false → (pl e || mi e) ≡ true
-      → (h : ℕ) × (h < M .floor .lanes) × (M .floor .end true h ≡ k) × (pl h ≡ true)
-      × In (tightSet (count (M .floor) true k) (M .cap true k) (trays M f true k) (place (M .floor) true k h)) (place (M .floor) true k e)
-  in-holder k e kin le ke n y =
-      elim (or-cases (pl e) (mi e) y) [
-        | inl p ↦ (e, le, ke, p, tight-at M laws f fits true k kin e le ke (in-full e le (ap near ke ∙ n) p) .1)
-        | inr m ↦
-            elim (cl .given (Minus e) le m)
-            [ inl q ↦ let z : _≡_ {A = ℕ} 0 1 = cc in absurd (omega arith) | inr c ↦ by (c .0) (c .1) (c .2) ]
-      ]
-    where
-      by : (x : State) → Lab pl mi x → Gives M f x (Minus e)
-          → (h : ℕ) × (h < M .floor .lanes) × (M .floor .end true h ≡ k) × (pl h ≡ true)
-          × In (tightSet (count (M .floor) true k) (M .cap true k) (trays M f true k) (place (M .floor) true k h)) (place (M .floor) true k e)
-      by (Pole b) l c = absurd (omega (arith, c .some))
-      by (Plus h) l c =
-          let kh : M .floor .end true h ≡ k = c .meet ∙ ke in (
-            h,
-            c .ok-from,
-            kh,
-            l,
-            room-member M laws f fits true k kin h e (c .ok-from) kh (in-full h (c .ok-from) (ap near kh ∙ n) l) (omega (arith, c .some)),
-          )
-      by (Minus h) l c =
-          absurd (both-ways (near k) n (ap near (sym (c .meet ∙ ke)) ∙ opened-near (Minus h) (c .ok-from) l (omega (arith, c .some))))
-
   U : ℕ → Bool
   U e = crosses M near e && upper pl mi e
 
@@ -224,7 +52,7 @@ module _ (M : Meaning) (laws : Lawful M) (f : ℕ → ℕ) (fits : Fits M f) (pl
           let e : ℕ = laneAt (M .floor) false k p in
           let ke : M .floor .end false e ≡ k = eqb-true (M .floor .end false e) k (a .1) in
           let r : (pl e || mi e) ≡ false = not-true (pl e || mi e) (sym (has-setOf M false k (upper pl mi) p l) ∙ i) in
-          let t = tight-at M laws f fits false k kin e (a .0) ke (out-full e (a .0) (ap near ke ∙ n) r) in
+          let t = tight-at M laws f fits false k kin e (a .0) ke (out-full M laws f fits pl mi near cl e (a .0) (ap near ke ∙ n) r) in
           let Y : ℕ = tightSet (count (M .floor) false k) (M .cap false k) (trays M f false k) (place (M .floor) false k e) in (
             Y,
             t .0,
@@ -234,7 +62,7 @@ module _ (M : Meaning) (laws : Lawful M) (f : ℕ → ℕ) (fits : Fits M f) (pl
                 let g : ℕ = laneAt (M .floor) false k q in
                 has-setOf M false k (upper pl mi) q m
                 ∙ not-from-false (pl g || mi g)
-                (out-tight k e g kin (a .0) (b .0) ke (eqb-true (M .floor .end false g) k (b .1)) n r (ap (has Y) (b .2) ∙ j))),
+                (out-tight M laws f fits pl mi near cl k e g kin (a .0) (b .0) ke (eqb-true (M .floor .end false g) k (b .1)) n r (ap (has Y) (b .2) ∙ j))),
           )
 
   -- so are those that cross
@@ -253,7 +81,7 @@ module _ (M : Meaning) (laws : Lawful M) (f : ℕ → ℕ) (fits : Fits M f) (pl
     where
       one : (e : ℕ) → e < M .floor .lanes → (o u x y : Bool) → on (M .floor) false k e ≡ o → upper pl mi e ≡ u → near (M .floor .end false e) ≡ x → near (M .floor .end true e) ≡ y
           → cond (o && ((x && not y) && u)) (f e) 0 ≡ cond (o && u) (f e) 0
-      one e l true true true true eo eu ex ey = sym (unlabelled-empty e l ey (not-true (pl e || mi e) eu))
+      one e l true true true true eo eu ex ey = sym (unlabelled-empty M laws f fits pl mi near cl e l ey (not-true (pl e || mi e) eu))
       one e l true true true false eo eu ex ey = refl
       one e l true true false y eo eu ex ey = absurd (both-ways (near (M .floor .end false e)) ex (ap near (eqb-true (M .floor .end false e) k eo) ∙ n))
       one e l true false true true eo eu ex ey = refl
@@ -282,9 +110,9 @@ module _ (M : Meaning) (laws : Lawful M) (f : ℕ → ℕ) (fits : Fits M f) (pl
           let ke : M .floor .end true e ≡ k = eqb-true (M .floor .end true e) k (a .1) in
           let y : (pl e || mi e) ≡ true =
           not-false (pl e || mi e) (not-true (upper pl mi e) (and-parts (crosses M near e) (not (upper pl mi e)) (sym (has-setOf M true k L p l) ∙ i) .1)) in
-          let h = in-holder k e kin (a .0) ke n y in
+          let h = in-holder M laws f fits pl mi near cl k e kin (a .0) ke n y in
           let Y : ℕ = tightSet (count (M .floor) true k) (M .cap true k) (trays M f true k) (place (M .floor) true k (h .0)) in
-          let t = tight-at M laws f fits true k kin (h .0) (h .1) (h .2) (in-full (h .0) (h .1) (ap near (h .2) ∙ n) (h .3)) in (
+          let t = tight-at M laws f fits true k kin (h .0) (h .1) (h .2) (in-full M laws f fits pl mi near cl (h .0) (h .1) (ap near (h .2) ∙ n) (h .3)) in (
             Y,
             t .0,
             ap (has Y) (sym (a .2)) ∙ h .4,
@@ -292,18 +120,18 @@ module _ (M : Meaning) (laws : Lawful M) (f : ℕ → ℕ) (fits : Fits M f) (pl
                 let b = laneAt-there (M .floor) true k q m in
                 let g : ℕ = laneAt (M .floor) true k q in
                 let kg : M .floor .end true g ≡ k = eqb-true (M .floor .end true g) k (b .1) in
-                let z = in-tight k (h .0) g kin (h .1) (b .0) (h .2) kg n (h .3) (ap (has Y) (b .2) ∙ j) in
+                let z = in-tight M laws f fits pl mi near cl k (h .0) g kin (h .1) (b .0) (h .2) kg n (h .3) (ap (has Y) (b .2) ∙ j) in
                 has-setOf M true k L q m
                 ∙ and-from (crosses M near g) (not (upper pl mi g))
-                (and-from (near (M .floor .end false g)) (not (near (M .floor .end true g))) (label-near g (b .0) z) (not-from-false (near (M .floor .end true g)) (ap near kg ∙ n)))
+                (and-from (near (M .floor .end false g)) (not (near (M .floor .end true g))) (label-near M laws f fits pl mi near cl g (b .0) z) (not-from-false (near (M .floor .end true g)) (ap near kg ∙ n)))
                 (not-from-false (upper pl mi g) (not-from-true (pl g || mi g) z))),
           )
 
   total-is : Balanced M f → total M f ≡ capacity M near (upper pl mi)
   unfolding capacity U L
   total-is bal =
-      let a = crossing M laws near stock-near despatch-far f bal in
-      let b = crossing-parts M laws near stock-near despatch-far f bal (upper pl mi) in
+      let a = crossing M laws near (stock-near M laws f fits pl mi near cl) (despatch-far M laws f fits pl mi near cl) f bal in
+      let b = crossing-parts M laws near (stock-near M laws f fits pl mi near cl) (despatch-far M laws f fits pl mi near cl) f bal (upper pl mi) in
       let z = sum-none (λ e. cond (near (M .floor .end true e) && not (near (M .floor .end false e))) (f e) 0) (M .floor .lanes)
       (λ e l. none e l (near (M .floor .end true e)) (near (M .floor .end false e)) refl refl) in
       let c = sum-same (λ i. cond (near i) (load (trays M f false i) (count (M .floor) false i) (setOf M false i U)) 0)
@@ -314,7 +142,7 @@ module _ (M : Meaning) (laws : Lawful M) (f : ℕ → ℕ) (fits : Fits M f) (pl
     where
       none : (e : ℕ) → e < M .floor .lanes → (x y : Bool) → near (M .floor .end true e) ≡ x → near (M .floor .end false e) ≡ y → cond (x && not y) (f e) 0 ≡ 0
       none e l true true a b = refl
-      none e l true false a b = back-empty e l a b
+      none e l true false a b = back-empty M laws f fits pl mi near cl e l a b
       none e l false y a b = refl
 
       outs : (i : ℕ) → i < M .floor .stations → (x : Bool) → near i ≡ x

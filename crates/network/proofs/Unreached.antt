@@ -12,7 +12,7 @@ use Rattle.network.specs.Feasible.{Fits}
 use Rattle.network.specs.Labelling.{holder, Gives}
 use Rattle.network.specs.Finished.{Lab, LabLane, Closed}
 use Rattle.network.proofs.Labelling.{turn?, skip}
-use Rattle.network.proofs.Finished.{step-labels}
+use Rattle.network.proofs.Closed.{step-labels}
 
 module _ (M : Meaning) (laws : Lawful M) (f : ℕ → ℕ) (fits : Fits M f) (pl mi near : ℕ → Bool) (cl : Closed M f pl mi near) where
   -- from a lane whose label has the other sign: the turn is left out

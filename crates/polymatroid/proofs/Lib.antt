@@ -5,6 +5,7 @@ pub mod Room
 pub mod Zeroing
 pub mod Unions
 pub mod Exchange
+pub mod Covers
 pub mod Critical
 pub mod Build
 pub mod Tables

@@ -27,6 +27,7 @@ use Rattle.floor.proofs.Places.{place-below, place-apart, laneAt-place}
 use Rattle.network.proofs.Hits.{hits, all-hits}
 use Rattle.network.proofs.Loads.{minus-carries}
 use Rattle.network.proofs.Visits.{Open, Free, byArrival, byDeparture, open-unless, free-unless, open-free}
+use Rattle.network.proofs.Rooms.{tightAt, there, apart, less-is, all-is}
 
 -- the position of a state's lane among those that enter k; none is the count
 unfoldable pub posPlus : Meaning → ℕ → State → ℕ
@@ -38,15 +39,6 @@ unfoldable pub posMinus : Meaning → ℕ → State → ℕ
 posMinus M k (Pole b) = count (M .floor) true k
 posMinus M k (Plus e) = count (M .floor) true k
 posMinus M k (Minus e) = place (M .floor) true k e
-
--- the tight set of a position there
-abbrev pub tightAt : Meaning → (ℕ → ℕ) → ℕ → ℕ → ℕ
-tightAt M f k p = tightSet (count (M .floor) true k) (M .cap true k) (trays M f true k) p
-
-pub room-here : (M : Meaning) (f : ℕ → ℕ) (k e g : ℕ) → M .floor .end true e ≡ k
-    → roomAt M f true e g ≡ roomBut (count (M .floor) true k) (M .cap true k) (trays M f true k) (place (M .floor) true k e) g
-unfolding roomAt
-room-here M f k e g q = ap (λ i. roomBut (count (M .floor) true i) (M .cap true i) (trays M f true i) (place (M .floor) true i e) g) q
 
 neither : (a b c : Bool) → (a && (not b && not c)) ≡ true → (a ≡ true) × (b ≡ false) × (c ≡ false)
 neither a b c t = (grind arith, grind arith, grind arith)
@@ -61,7 +53,7 @@ module _ (M : Meaning) (f : ℕ → ℕ) (P : ℕ → State) (k : ℕ) where
   unfoldable pub swapAt : ℕ → Swap
   swapAt q = record { up = posPlus M k (P q); down = posMinus M k (P (suc q)) }
 
-  -- the open pair, if there is one before N
+  -- the open pair, if there M true k is one before N
   unfoldable pub theU : ℕ → ℕ
   theU N = first isU N
 
@@ -157,25 +149,13 @@ module _ (M : Meaning) (laws : Lawful M) (f : ℕ → ℕ) (fits : Fits M f) (P 
   pub trays-fit : Within (count (M .floor) true k) (M .cap true k) (trays M f true k)
   trays-fit = fits true k on-floor
 
-  -- e enters k at a position
-  pub there : (e : ℕ) → e < M .floor .lanes → M .floor .end true e ≡ k → place (M .floor) true k e < count (M .floor) true k
-  there e l q = place-below (M .floor) true k e l (eq-eqb (M .floor .end true e) k q)
-
-  pub apart : (e g : ℕ) → M .floor .end true e ≡ k → M .floor .end true g ≡ k → (e ≡ g → ⊥) → place (M .floor) true k e ≡ place (M .floor) true k g → ⊥
-  apart e g a b ne r = ne (place-apart (M .floor) true k e g (eq-eqb (M .floor .end true e) k a) (eq-eqb (M .floor .end true g) k b) r)
-
-  pub room-all : (e : ℕ) → M .floor .end true e ≡ k → roomAll M f true e ≡ room (count (M .floor) true k) (M .cap true k) (trays M f true k) (place (M .floor) true k e)
-  room-all e q =
-      ap (λ i. roomAt M f true e (count (M .floor) true i)) q ∙ room-here M f k e (count (M .floor) true k) q
-      ∙ sym (room-but (count (M .floor) true k) (M .cap true k) caps (trays M f true k) trays-fit (place (M .floor) true k e))
-
   pub full-here : (e : ℕ) → M .floor .end true e ≡ k → roomAll M f true e ≡ 0
       → Full (count (M .floor) true k) (M .cap true k) (trays M f true k) (place (M .floor) true k e)
-  full-here e q z = sym (room-all e q) ∙ z
+  full-here e q z = sym (all-is M laws f fits true k on-floor e q) ∙ z
 
   -- a full lane e steps to each lane of its tight set that carries trays
   pub tight-step : (e g : ℕ) → e < M .floor .lanes → g < M .floor .lanes → M .floor .end true e ≡ k → M .floor .end true g ≡ k → 0 < f g
-      → In (tightAt M f k (place (M .floor) true k e)) (place (M .floor) true k g) → Step M f (Plus e) (Minus g)
+      → In (tightAt M f true k e) (place (M .floor) true k g) → Step M f (Plus e) (Minus g)
   tight-step e g le lg a b h i = record {
     ok-from = le;
     ok-to = lg;
@@ -185,9 +165,9 @@ module _ (M : Meaning) (laws : Lawful M) (f : ℕ → ℕ) (fits : Fits M f) (P 
           | inl r ↦ inr r
           | inr r ↦
               let m = roomBut-full (count (M .floor) true k) (M .cap true k) caps (trays M f true k) trays-fit
-              (place (M .floor) true k e) (place (M .floor) true k g) (there e le a) (apart e g a b r) i in
+              (place (M .floor) true k e) (place (M .floor) true k g) (there M true k e le a) (apart M true k e g a b r) i in
               let s : roomLess M f true e g ≡ roomBut (count (M .floor) true k) (M .cap true k) (trays M f true k) (place (M .floor) true k e) (place (M .floor) true k g) =
-              ap (λ i. roomAt M f true e (place (M .floor) true i g)) a ∙ room-here M f k e (place (M .floor) true k g) a in
+              less-is M true k f e g a in
               inl (omega arith)
         ];
   }
@@ -198,26 +178,26 @@ module _ (M : Meaning) (laws : Lawful M) (f : ℕ → ℕ) (fits : Fits M f) (P 
   held-amount q h =
       rw (h .from, h .to)
       (ap (λ x. min x (f (h .g)))
-      (ap (λ i. roomAt M f true (h .e) (place (M .floor) true i (h .g))) (h .e-there) ∙ room-here M f k (h .e) (place (M .floor) true k (h .g)) (h .e-there)))
+      (less-is M true k f (h .e) (h .g) (h .e-there)))
 
   -- the swap of a pair by a full arrival
   pub swap-is : (q : ℕ) (h : Held M f P k q) → swapAt M f P k q ≡ record { up = place (M .floor) true k (h .e); down = place (M .floor) true k (h .g) }
   unfolding swapAt posPlus posMinus
   swap-is q h = λ i. record { up = posPlus M k (h .from i); down = posMinus M k (h .to i) }
 
-  pub member : (q : ℕ) → q < N → (h : Held M f P k q) → In (tightAt M f k (place (M .floor) true k (h .e))) (place (M .floor) true k (h .g))
+  pub member : (q : ℕ) → q < N → (h : Held M f P k q) → In (tightAt M f true k (h .e)) (place (M .floor) true k (h .g))
   member q l h =
       member-from-room (count (M .floor) true k) (M .cap true k) caps (trays M f true k) trays-fit (place (M .floor) true k (h .e)) (place (M .floor) true k (h .g))
-      (there (h .e) (h .e-lane) (h .e-there)) (full-here (h .e) (h .e-there) (h .full))
+      (there M true k (h .e) (h .e-lane) (h .e-there)) (full-here (h .e) (h .e-there) (h .full))
       (omega (arith, held-amount q h, path .some q l))
 
   -- an exchange at its two positions, which the lanes' are
   sound-at : (n q : ℕ) → q < N → n ≤ amount M f (P q) (P (suc q)) → (h : Held M f P k q)
       → Sound (count (M .floor) true k) (M .cap true k) (trays M f true k) n (record { up = place (M .floor) true k (h .e); down = place (M .floor) true k (h .g) })
   sound-at n q l m h = record {
-    up-on = there (h .e) (h .e-lane) (h .e-there);
-    down-on = there (h .g) (h .g-lane) (h .g-there);
-    apart = apart (h .e) (h .g) (h .e-there) (h .g-there) (h .turns);
+    up-on = there M true k (h .e) (h .e-lane) (h .e-there);
+    down-on = there M true k (h .g) (h .g-lane) (h .g-there);
+    apart = apart M true k (h .e) (h .g) (h .e-there) (h .g-there) (h .turns);
     full = full-here (h .e) (h .e-there) (h .full);
     member = member q l h;
     carries = omega (arith, held-amount q h, ap f (laneAt-place (M .floor) true k (h .g) (h .g-lane) (eq-eqb (M .floor .end true (h .g)) k (h .g-there))));

@@ -27,14 +27,15 @@ use Rattle.floor.proofs.Places.{place-below, place-apart, laneAt-place}
 use Rattle.network.proofs.Hits.{hits, all-hits}
 use Rattle.network.proofs.Loads.{minus-carries}
 use Rattle.network.proofs.Visits.{Open, Free, byArrival, byDeparture, open-unless, free-unless, open-free}
-use Rattle.network.proofs.Arrivals.{posPlus, posMinus, tightAt, room-here, isH, isU, swapAt, theU, endUp, endDown, swaps, turn-cond, Held, order, here-h, here-u, u-open, held, caps, trays-fit, there, apart, room-all, full-here, tight-step, swap-is, member, sound, carried}
+use Rattle.network.proofs.Arrivals.{posPlus, posMinus, isH, isU, swapAt, theU, endUp, endDown, swaps, turn-cond, Held, order, here-h, here-u, u-open, held, caps, trays-fit, full-here, tight-step, swap-is, member, sound, carried}
+use Rattle.network.proofs.Rooms.{tightAt, there, apart, room-is, less-is, all-is}
 
 module _ (M : Meaning) (laws : Lawful M) (f : ℕ → ℕ) (fits : Fits M f) (P : ℕ → State) (N : ℕ) (path : Path M f P N) (k : ℕ) (on-floor : k < M .floor .stations) where
   -- its tight set is clear of a later exchange
   clear-down : (q r : ℕ) → q < r → r < N → (h : Held M f P k q) (j : Held M f P k r)
-      → Out (tightAt M f k (place (M .floor) true k (h .e))) (place (M .floor) true k (j .g))
+      → Out (tightAt M f true k (h .e)) (place (M .floor) true k (j .g))
   clear-down q r l m h j =
-      elim (cases-bool (has (tightAt M f k (place (M .floor) true k (h .e))) (place (M .floor) true k (j .g)))) [
+      elim (cases-bool (has (tightAt M f true k (h .e)) (place (M .floor) true k (j .g)))) [
         | inl y ↦
             let s = tight-step M laws f fits P N path k on-floor (h .e) (j .g) (h .e-lane) (j .g-lane) (h .e-there) (j .g-there) (carried M laws f fits P N path k on-floor r m j) y in
             absurd (omega (arith, path .short q (suc r) (omega arith) m (rw (h .from, j .to) s)))
@@ -42,28 +43,28 @@ module _ (M : Meaning) (laws : Lawful M) (f : ℕ → ℕ) (fits : Fits M f) (P 
       ]
 
   clear-up : (q r : ℕ) → q < r → r < N → (h : Held M f P k q) (j : Held M f P k r)
-      → Out (tightAt M f k (place (M .floor) true k (h .e))) (place (M .floor) true k (j .e))
+      → Out (tightAt M f true k (h .e)) (place (M .floor) true k (j .e))
   clear-up q r l m h j =
-      elim (cases-bool (has (tightAt M f k (place (M .floor) true k (h .e))) (place (M .floor) true k (j .e)))) [
+      elim (cases-bool (has (tightAt M f true k (h .e)) (place (M .floor) true k (j .e)))) [
         | inl y ↦
             let t = full-tight (count (M .floor) true k) (M .cap true k) (caps M laws f fits P N path k on-floor) (trays M f true k) (trays-fit M laws f fits P N path k on-floor) (place (M .floor) true k (h .e))
-            (there M laws f fits P N path k on-floor (h .e) (h .e-lane) (h .e-there)) (full-here M laws f fits P N path k on-floor (h .e) (h .e-there) (h .full)) in
-            absurd (both-ways (has (tightAt M f k (place (M .floor) true k (h .e))) (place (M .floor) true k (j .g))) (clear-down q r l m h j)
+            (there M true k (h .e) (h .e-lane) (h .e-there)) (full-here M laws f fits P N path k on-floor (h .e) (h .e-there) (h .full)) in
+            absurd (both-ways (has (tightAt M f true k (h .e)) (place (M .floor) true k (j .g))) (clear-down q r l m h j)
             (tightSet-nested (count (M .floor) true k) (M .cap true k) (caps M laws f fits P N path k on-floor) (trays M f true k) (trays-fit M laws f fits P N path k on-floor)
-            (place (M .floor) true k (h .e)) (place (M .floor) true k (j .e)) (tightAt M f k (place (M .floor) true k (h .e))) (t .0) (t .1) y
+            (place (M .floor) true k (h .e)) (place (M .floor) true k (j .e)) (tightAt M f true k (h .e)) (t .0) (t .1) y
             (place (M .floor) true k (j .g)) (member M laws f fits P N path k on-floor r m j)))
         | inr y ↦ y
       ]
 
   pub tight-held : (q : ℕ) (h : Held M f P k q)
-      → Tight (count (M .floor) true k) (M .cap true k) (trays M f true k) (tightAt M f k (place (M .floor) true k (h .e)))
-      × In (tightAt M f k (place (M .floor) true k (h .e))) (place (M .floor) true k (h .e))
+      → Tight (count (M .floor) true k) (M .cap true k) (trays M f true k) (tightAt M f true k (h .e))
+      × In (tightAt M f true k (h .e)) (place (M .floor) true k (h .e))
   tight-held q h =
       full-tight (count (M .floor) true k) (M .cap true k) (caps M laws f fits P N path k on-floor) (trays M f true k) (trays-fit M laws f fits P N path k on-floor) (place (M .floor) true k (h .e))
-      (there M laws f fits P N path k on-floor (h .e) (h .e-lane) (h .e-there)) (full-here M laws f fits P N path k on-floor (h .e) (h .e-there) (h .full))
+      (there M true k (h .e) (h .e-lane) (h .e-there)) (full-here M laws f fits P N path k on-floor (h .e) (h .e-there) (h .full))
 
-  clear-none : (q : ℕ) (h : Held M f P k q) → Out (tightAt M f k (place (M .floor) true k (h .e))) (count (M .floor) true k)
-  clear-none q h = has-past (count (M .floor) true k) (tightAt M f k (place (M .floor) true k (h .e))) (count (M .floor) true k) (tight-held q h .0 .set) (omega arith)
+  clear-none : (q : ℕ) (h : Held M f P k q) → Out (tightAt M f true k (h .e)) (count (M .floor) true k)
+  clear-none q h = has-past (count (M .floor) true k) (tightAt M f true k (h .e)) (count (M .floor) true k) (tight-held q h .0 .set) (omega arith)
 
   -- a pair by a full arrival does not come after the open pair
   before-u : (q r : ℕ) → q < N → r < N → Held M f P k q → isH M f P k q ≡ true → isU M f P k r ≡ true → q < r
@@ -84,12 +85,12 @@ module _ (M : Meaning) (laws : Lawful M) (f : ℕ → ℕ) (fits : Fits M f) (P 
 
   -- and of the open pair
   clear-v : (q r : ℕ) → q < r → r < N → (h : Held M f P k q) → isU M f P k r ≡ true → (y : State) → P (suc r) ≡ y
-      → Out (tightAt M f k (place (M .floor) true k (h .e))) (posMinus M k y)
+      → Out (tightAt M f true k (h .e)) (posMinus M k y)
   unfolding posMinus
   clear-v q r l m h u (Pole b) c = clear-none q h
   clear-v q r l m h u (Plus g) c = clear-none q h
   clear-v q r l m h u (Minus g) c =
-      elim (cases-bool (has (tightAt M f k (place (M .floor) true k (h .e))) (place (M .floor) true k g))) [
+      elim (cases-bool (has (tightAt M f true k (h .e)) (place (M .floor) true k g))) [
         | inl y ↦
             let g-there : M .floor .end true g ≡ k = subst (λ z. at M false z ≡ k) c (sym (path .meet r m) ∙ here-u M laws f fits P N path k on-floor r u .0) in
             let s = tight-step M laws f fits P N path k on-floor (h .e) g (h .e-lane) (subst (Ok M) c (path .ok (suc r) m)) (h .e-there) g-there
@@ -99,17 +100,17 @@ module _ (M : Meaning) (laws : Lawful M) (f : ℕ → ℕ) (fits : Fits M f) (P 
       ]
 
   clear-u : (q r : ℕ) → r < N → (h : Held M f P k q) → isU M f P k r ≡ true → (x : State) → P r ≡ x
-      → Out (tightAt M f k (place (M .floor) true k (h .e))) (posPlus M k x)
+      → Out (tightAt M f true k (h .e)) (posPlus M k x)
   unfolding posPlus
   clear-u q r m h u (Pole b) c = clear-none q h
   clear-u q r m h u (Minus g) c = clear-none q h
   clear-u q r m h u (Plus a) c =
-      elim (cases-bool (has (tightAt M f k (place (M .floor) true k (h .e))) (place (M .floor) true k a))) [
+      elim (cases-bool (has (tightAt M f true k (h .e)) (place (M .floor) true k a))) [
         | inl y ↦
             let a-there : M .floor .end true a ≡ k = subst (λ z. at M true z ≡ k) c (here-u M laws f fits P N path k on-floor r u .0) in
             let z = tight-full (count (M .floor) true k) (M .cap true k) (caps M laws f fits P N path k on-floor) (trays M f true k) (trays-fit M laws f fits P N path k on-floor) (place (M .floor) true k a)
-            (tightAt M f k (place (M .floor) true k (h .e))) (tight-held q h .0) y in
-            absurd (omega (arith, room-all M laws f fits P N path k on-floor a a-there, z, subst (Open M f) c (u-open M laws f fits P N path k on-floor r m u .0)))
+            (tightAt M f true k (h .e)) (tight-held q h .0) y in
+            absurd (omega (arith, all-is M laws f fits true k on-floor a a-there, z, subst (Open M f) c (u-open M laws f fits P N path k on-floor r m u .0)))
         | inr y ↦ y
       ]
 
@@ -184,12 +185,12 @@ module _ (M : Meaning) (laws : Lawful M) (f : ℕ → ℕ) (fits : Fits M f) (P 
 
   not-full : (e : ℕ) → M .floor .end true e ≡ k → 0 < roomAll M f true e
       → Full (count (M .floor) true k) (M .cap true k) (trays M f true k) (place (M .floor) true k e) → ⊥
-  not-full e q h z = omega (arith, room-all M laws f fits P N path k on-floor e q)
+  not-full e q h z = omega (arith, all-is M laws f fits true k on-floor e q)
 
   ends-up : (n e : ℕ) → (e < M .floor .lanes) × (M .floor .end true e ≡ k) × (0 < roomAll M f true e) → n ≤ roomAll M f true e
       → Ends (count (M .floor) true k) (M .cap true k) (trays M f true k) n (place (M .floor) true k e) (count (M .floor) true k)
   ends-up n e a m =
-      let t = there M laws f fits P N path k on-floor e (a .0) (a .1) in
+      let t = there M true k e (a .0) (a .1) in
       record {
         up-on = omega arith;
         down-on = omega arith;
@@ -198,7 +199,7 @@ module _ (M : Meaning) (laws : Lawful M) (f : ℕ → ℕ) (fits : Fits M f) (P 
         carries = λ l. absurd (omega arith);
         amount = λ l. omega (
           arith,
-          room-all M laws f fits P N path k on-floor e (a .1),
+          all-is M laws f fits true k on-floor e (a .1),
           room-but (count (M .floor) true k) (M .cap true k) (caps M laws f fits P N path k on-floor) (trays M f true k) (trays-fit M laws f fits P N path k on-floor) (place (M .floor) true k e),
         );
       }
@@ -206,7 +207,7 @@ module _ (M : Meaning) (laws : Lawful M) (f : ℕ → ℕ) (fits : Fits M f) (P 
   ends-down : (n g : ℕ) → (g < M .floor .lanes) × (M .floor .end true g ≡ k) → n ≤ f g
       → Ends (count (M .floor) true k) (M .cap true k) (trays M f true k) n (count (M .floor) true k) (place (M .floor) true k g)
   ends-down n g a m =
-      let t = there M laws f fits P N path k on-floor g (a .0) (a .1) in
+      let t = there M true k g (a .0) (a .1) in
       record {
         up-on = omega arith;
         down-on = omega arith;
@@ -220,15 +221,15 @@ module _ (M : Meaning) (laws : Lawful M) (f : ℕ → ℕ) (fits : Fits M f) (P 
       → (e ≡ g → ⊥) → n ≤ min (roomLess M f true e g) (f g)
       → Ends (count (M .floor) true k) (M .cap true k) (trays M f true k) n (place (M .floor) true k e) (place (M .floor) true k g)
   ends-both n e g a b ne m =
-      let t = there M laws f fits P N path k on-floor e (a .0) (a .1) in
-      let s = there M laws f fits P N path k on-floor g (b .0) (b .1) in
+      let t = there M true k e (a .0) (a .1) in
+      let s = there M true k g (b .0) (b .1) in
       record {
         up-on = omega arith;
         down-on = omega arith;
-        apart = λ l. apart M laws f fits P N path k on-floor e g (a .1) (b .1) ne;
+        apart = λ l. apart M true k e g (a .1) (b .1) ne;
         roomy = λ l. not-full e (a .1) (a .2);
         carries = λ l. omega (arith, trays-at g (b .0) (b .1));
-        amount = λ l. omega (arith, ap (λ i. roomAt M f true e (place (M .floor) true i g)) (a .1), room-here M f k e (place (M .floor) true k g) (a .1));
+        amount = λ l. omega (arith, less-is M true k f e g (a .1));
       }
 
   -- the ends of the open pair at i

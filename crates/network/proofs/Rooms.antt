@@ -19,24 +19,29 @@ use Rattle.network.specs.Feasible.{Fits}
 abbrev pub tightAt : Meaning → (ℕ → ℕ) → Bool → ℕ → ℕ → ℕ
 tightAt M f d k e = tightSet (count (M .floor) d k) (M .cap d k) (trays M f d k) (place (M .floor) d k e)
 
--- rooms at a station k, for either end
-module _ (M : Meaning) (laws : Lawful M) (f : ℕ → ℕ) (fits : Fits M f) (d : Bool) (k : ℕ) (kin : k < M .floor .stations) where
+-- a lane that has its end d at station k has a position there, and two have two
+module _ (M : Meaning) (d : Bool) (k : ℕ) where
   pub there : (e : ℕ) → e < M .floor .lanes → M .floor .end d e ≡ k → place (M .floor) d k e < count (M .floor) d k
   there e l q = place-below (M .floor) d k e l (eq-eqb (M .floor .end d e) k q)
 
   pub apart : (e g : ℕ) → M .floor .end d e ≡ k → M .floor .end d g ≡ k → (e ≡ g → ⊥) → place (M .floor) d k e ≡ place (M .floor) d k g → ⊥
   apart e g a b ne r = ne (place-apart (M .floor) d k e g (eq-eqb (M .floor .end d e) k a) (eq-eqb (M .floor .end d g) k b) r)
 
-  pub room-is : (e g : ℕ) → M .floor .end d e ≡ k → roomAt M f d e g ≡ roomBut (count (M .floor) d k) (M .cap d k) (trays M f d k) (place (M .floor) d k e) g
+  -- its room is that of its position
+  pub room-is : (f : ℕ → ℕ) (e g : ℕ) → M .floor .end d e ≡ k
+      → roomAt M f d e g ≡ roomBut (count (M .floor) d k) (M .cap d k) (trays M f d k) (place (M .floor) d k e) g
   unfolding roomAt
-  room-is e g q = ap (λ i. roomBut (count (M .floor) d i) (M .cap d i) (trays M f d i) (place (M .floor) d i e) g) q
+  room-is f e g q = ap (λ i. roomBut (count (M .floor) d i) (M .cap d i) (trays M f d i) (place (M .floor) d i e) g) q
 
-  pub less-is : (e g : ℕ) → M .floor .end d e ≡ k → roomLess M f d e g ≡ roomBut (count (M .floor) d k) (M .cap d k) (trays M f d k) (place (M .floor) d k e) (place (M .floor) d k g)
-  less-is e g q = ap (λ i. roomAt M f d e (place (M .floor) d i g)) q ∙ room-is e (place (M .floor) d k g) q
+  pub less-is : (f : ℕ → ℕ) (e g : ℕ) → M .floor .end d e ≡ k
+      → roomLess M f d e g ≡ roomBut (count (M .floor) d k) (M .cap d k) (trays M f d k) (place (M .floor) d k e) (place (M .floor) d k g)
+  less-is f e g q = ap (λ i. roomAt M f d e (place (M .floor) d i g)) q ∙ room-is f e (place (M .floor) d k g) q
 
+-- rooms at a station k, for either end
+module _ (M : Meaning) (laws : Lawful M) (f : ℕ → ℕ) (fits : Fits M f) (d : Bool) (k : ℕ) (kin : k < M .floor .stations) where
   pub all-is : (e : ℕ) → M .floor .end d e ≡ k → roomAll M f d e ≡ room (count (M .floor) d k) (M .cap d k) (trays M f d k) (place (M .floor) d k e)
   all-is e q =
-      ap (λ i. roomAt M f d e (count (M .floor) d i)) q ∙ room-is e (count (M .floor) d k) q
+      ap (λ i. roomAt M f d e (count (M .floor) d i)) q ∙ room-is M d k f e (count (M .floor) d k) q
       ∙ sym (room-but (count (M .floor) d k) (M .cap d k) (laws .laws d k kin .0) (trays M f d k) (fits d k kin) (place (M .floor) d k e))
 
   -- the tight set of a full lane
@@ -44,7 +49,7 @@ module _ (M : Meaning) (laws : Lawful M) (f : ℕ → ℕ) (fits : Fits M f) (d 
       → Tight (count (M .floor) d k) (M .cap d k) (trays M f d k) (tightAt M f d k e)
       × In (tightAt M f d k e) (place (M .floor) d k e)
   tight-at e l q z =
-      full-tight (count (M .floor) d k) (M .cap d k) (laws .laws d k kin .0) (trays M f d k) (fits d k kin) (place (M .floor) d k e) (there e l q) (sym (all-is e q) ∙ z)
+      full-tight (count (M .floor) d k) (M .cap d k) (laws .laws d k kin .0) (trays M f d k) (fits d k kin) (place (M .floor) d k e) (there M d k e l q) (sym (all-is e q) ∙ z)
 
   -- a member of it is full, has room for the lane, and its tight set lies within
   pub member-full : (e : ℕ) → e < M .floor .lanes → M .floor .end d e ≡ k → roomAll M f d e ≡ 0
@@ -58,14 +63,14 @@ module _ (M : Meaning) (laws : Lawful M) (f : ℕ → ℕ) (fits : Fits M f) (d 
       → In (tightAt M f d k e) (place (M .floor) d k g) → 0 < roomLess M f d e g
   member-room e g l q kg ne i =
       let r = roomBut-full (count (M .floor) d k) (M .cap d k) (laws .laws d k kin .0) (trays M f d k) (fits d k kin) (place (M .floor) d k e) (place (M .floor) d k g)
-      (there e l q) (apart e g q kg ne) i in
-      omega (arith, less-is e g q)
+      (there M d k e l q) (apart M d k e g q kg ne) i in
+      omega (arith, less-is M d k f e g q)
 
   pub room-member : (e g : ℕ) → e < M .floor .lanes → M .floor .end d e ≡ k → roomAll M f d e ≡ 0 → 0 < roomLess M f d e g
       → In (tightAt M f d k e) (place (M .floor) d k g)
   room-member e g l q z r =
-      member-from-room (count (M .floor) d k) (M .cap d k) (laws .laws d k kin .0) (trays M f d k) (fits d k kin) (place (M .floor) d k e) (place (M .floor) d k g) (there e l q)
-      (sym (all-is e q) ∙ z) (omega (arith, less-is e g q))
+      member-from-room (count (M .floor) d k) (M .cap d k) (laws .laws d k kin .0) (trays M f d k) (fits d k kin) (place (M .floor) d k e) (place (M .floor) d k g) (there M d k e l q)
+      (sym (all-is e q) ∙ z) (omega (arith, less-is M d k f e g q))
 
   pub member-within : (e g : ℕ) → e < M .floor .lanes → M .floor .end d e ≡ k → roomAll M f d e ≡ 0
       → In (tightAt M f d k e) (place (M .floor) d k g)
@@ -81,8 +86,8 @@ module _ (M : Meaning) (laws : Lawful M) (f : ℕ → ℕ) (fits : Fits M f) (d 
   member-carries e g l lg q kg ne z i =
       let t = tight-at e l q z in
       let r = tightSet-carries (count (M .floor) d k) (M .cap d k) (laws .laws d k kin .0) (trays M f d k) (fits d k kin) (place (M .floor) d k e) (place (M .floor) d k g)
-      (tightAt M f d k e) (there e l q) (there g lg kg) (t .0) (t .1) i
-      (λ o. apart e g q kg ne (sym o)) in
+      (tightAt M f d k e) (there M d k e l q) (there M d k g lg kg) (t .0) (t .1) i
+      (λ o. apart M d k e g q kg ne (sym o)) in
       omega (arith, ap f (laneAt-place (M .floor) d k g lg (eq-eqb (M .floor .end d g) k kg)))
 
 module _ (M : Meaning) (laws : Lawful M) (f : ℕ → ℕ) (fits : Fits M f) where

@@ -23,12 +23,13 @@ use Rattle.network.specs.Moves.{Moving, Spliced, Steps-splice}
 use Rattle.floor.proofs.Places.{place-apart}
 use Rattle.network.proofs.Paths.{touches, walked-touched, walked-other}
 use Rattle.network.proofs.Visits.{Open, Free, byArrival, byDeparture, open-unless, free-unless, open-free}
-use Rattle.network.proofs.Arrivals.{posPlus, posMinus, isH, isU, theU, endUp, endDown, Held, held, carried, there, room-all, room-here, order, here-h, here-u, u-open, full-here, caps, trays-fit, swap-is}
+use Rattle.network.proofs.Arrivals.{posPlus, posMinus, isH, isU, theU, endUp, endDown, Held, held, carried, order, here-h, here-u, u-open, full-here, caps, trays-fit, swap-is}
 use Rattle.network.proofs.Exchanges.{tight-held, trays-at}
 use Rattle.network.proofs.Arrived.{splice-in}
 use Rattle.network.proofs.Mirror.{mirror, mir, back, at-mirror, all-mirror, less-mirror, amount-mirror, step-back, step-mirror}
 use Rattle.network.proofs.Moves.{moving-mirror, walked-mirror}
 use Rattle.network.proofs.SpliceIn.{more-plus, free-after, open-before, step-in, step-out, OpenPair, opened, turn-step, in-in}
+use Rattle.network.proofs.Rooms.{tightAt, there, apart, room-is, less-is, all-is}
 
 -- ---- the mirror image
 

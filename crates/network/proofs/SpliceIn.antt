@@ -22,11 +22,12 @@ use Rattle.network.specs.Moves.{Moving, Spliced, Steps-splice}
 use Rattle.floor.proofs.Places.{place-apart}
 use Rattle.network.proofs.Paths.{touches, walked-touched, walked-other}
 use Rattle.network.proofs.Visits.{Open, Free, byArrival, byDeparture, open-unless, free-unless, open-free}
-use Rattle.network.proofs.Arrivals.{posPlus, posMinus, isH, isU, theU, endUp, endDown, Held, held, carried, there, room-all, room-here, order, here-h, here-u, u-open, full-here, caps, trays-fit, swap-is}
+use Rattle.network.proofs.Arrivals.{posPlus, posMinus, isH, isU, theU, endUp, endDown, Held, held, carried, order, here-h, here-u, u-open, full-here, caps, trays-fit, swap-is}
 use Rattle.network.proofs.Exchanges.{tight-held, trays-at}
 use Rattle.network.proofs.Arrived.{splice-in}
 use Rattle.network.proofs.Mirror.{mirror, mir, back, at-mirror, all-mirror, less-mirror, amount-mirror, step-back, step-mirror}
 use Rattle.network.proofs.Moves.{moving-mirror, walked-mirror}
+use Rattle.network.proofs.Rooms.{tightAt, there, apart, room-is, less-is, all-is}
 
 -- the tests that a + lane fails
 pub plus-arrives : (M : Meaning) (f : ℕ → ℕ) (e : ℕ) (y : State) → byDeparture M f (Plus e) y ≡ false
@@ -90,7 +91,7 @@ module _ (M : Meaning) (f : ℕ → ℕ) (P : ℕ → State) (N n : ℕ) (m : Mo
             | inl q ↦ inr (place-apart (M .floor) true k e b (eq-eqb (M .floor .end true e) k ke) (eq-eqb (M .floor .end true b) k kb) q)
             | inr q ↦
                 let s : roomLess M f true e b ≡ roomBut (count (M .floor) true k) (M .cap true k) (trays M f true k) (place (M .floor) true k e) (place (M .floor) true k b) =
-                ap (λ i. roomAt M f true e (place (M .floor) true i b)) ke ∙ room-here M f k e (place (M .floor) true k b) ke in
+                less-is M true k f e b ke in
                 inl (omega arith)
           ];
     }
@@ -140,7 +141,7 @@ module _ (M : Meaning) (f : ℕ → ℕ) (P : ℕ → State) (N n : ℕ) (m : Mo
     unfolding HeldPair posPlus posMinus
     new-pair e g le ke never now =
         elim (splice-in M (m .laws) f (m .fits) P N n (m .path) (m .least) k kin (place (M .floor) true k e) g
-        (there M (m .laws) f (m .fits) P N (m .path) k kin e le ke) never now) [
+        (there M true k e le ke) never now) [
           | inl a ↦ inl (by-open e le ke (a .0) (a .1))
           | inr c ↦
               let r : ℕ = c .0 in
@@ -164,8 +165,8 @@ module _ (M : Meaning) (f : ℕ → ℕ) (P : ℕ → State) (N n : ℕ) (m : Mo
     full-alone : (e : ℕ) → e < M .floor .lanes → M .floor .end true e ≡ k → roomAll M f true e ≡ 0
         → Pairs (count (M .floor) true k) (M .cap true k) (trays M f true k) (place (M .floor) true k e) (count (M .floor) true k) → ⊥
     full-alone e le ke z t =
-        let l = there M (m .laws) f (m .fits) P N (m .path) k kin e le ke in
-        let r = room-all M (m .laws) f (m .fits) P N (m .path) k kin e ke in
+        let l = there M true k e le ke in
+        let r = all-is M (m .laws) f (m .fits) true k kin e ke in
         let b = room-but (count (M .floor) true k) (M .cap true k) (caps M (m .laws) f (m .fits) P N (m .path) k kin) (trays M f true k)
         (trays-fit M (m .laws) f (m .fits) P N (m .path) k kin) (place (M .floor) true k e) in
         elim t [ inl q ↦ omega arith | inr q ↦ omega arith ]
@@ -175,7 +176,7 @@ module _ (M : Meaning) (f : ℕ → ℕ) (P : ℕ → State) (N n : ℕ) (m : Mo
     unfolding HeldPair
     opened e le ke z h =
         let now : Pairs (count (M .floor) true k) (M .cap true k) (trays M (walked n P N f) true k) (place (M .floor) true k e) (count (M .floor) true k) =
-        inr (omega (arith, room-here M (walked n P N f) k e (count (M .floor) true k) ke, ap (λ i. roomAt M (walked n P N f) true e (count (M .floor) true i)) ke)) in
+        inr (omega (arith, room-is M true k (walked n P N f) e (count (M .floor) true k) ke, ap (λ i. roomAt M (walked n P N f) true e (count (M .floor) true i)) ke)) in
         elim (new-pair e (count (M .floor) true k) le ke (full-alone e le ke z) now) [
           | inl a ↦ a
           | inr c ↦ let w : Held M f P k (c .0) = c .4 in absurd (full-alone (w .e) (w .e-lane) (w .e-there) (w .full) (c .6 w))
@@ -187,8 +188,8 @@ module _ (M : Meaning) (f : ℕ → ℕ) (P : ℕ → State) (N n : ℕ) (m : Mo
     full-carries e g le lg ke kg ne z h =
         let c = caps M (m .laws) f (m .fits) P N (m .path) k kin in
         let t = trays-fit M (m .laws) f (m .fits) P N (m .path) k kin in
-        let pe = there M (m .laws) f (m .fits) P N (m .path) k kin e le ke in
-        let pg = there M (m .laws) f (m .fits) P N (m .path) k kin g lg kg in
+        let pe = there M true k e le ke in
+        let pg = there M true k g lg kg in
         let fe = full-here M (m .laws) f (m .fits) P N (m .path) k kin e ke z in
         let i = member-from-room (count (M .floor) true k) (M .cap true k) c (trays M f true k) t (place (M .floor) true k e) (place (M .floor) true k g) pe fe h in
         let y = full-tight (count (M .floor) true k) (M .cap true k) c (trays M f true k) t (place (M .floor) true k e) pe fe in
@@ -239,7 +240,7 @@ module _ (M : Meaning) (f : ℕ → ℕ) (P : ℕ → State) (N n : ℕ) (m : Mo
         R = roomBut (count (M .floor) true k) (M .cap true k) (trays M f true k) (place (M .floor) true k e) (place (M .floor) true k g)
 
         R-is : roomLess M f true e g ≡ R
-        R-is = ap (λ i. roomAt M f true e (place (M .floor) true i g)) ke ∙ room-here M f k e (place (M .floor) true k g) ke
+        R-is = less-is M true k f e g ke
 
         differ : place (M .floor) true k e ≡ place (M .floor) true k g → ⊥
         differ q = ne (place-apart (M .floor) true k e g (eq-eqb (M .floor .end true e) k ke) (eq-eqb (M .floor .end true g) k kg) q)
@@ -248,7 +249,7 @@ module _ (M : Meaning) (f : ℕ → ℕ) (P : ℕ → State) (N n : ℕ) (m : Mo
         never nil t = elim t [ inl q ↦ differ q | inr q ↦ omega arith ]
 
         now : Pairs (count (M .floor) true k) (M .cap true k) (trays M (walked n P N f) true k) (place (M .floor) true k e) (place (M .floor) true k g)
-        now = inr (omega (arith, room-here M (walked n P N f) k e (place (M .floor) true k g) ke, ap (λ i. roomAt M (walked n P N f) true e (place (M .floor) true i g)) ke))
+        now = inr (omega (arith, less-is M true k (walked n P N f) e g ke))
 
         plus-g : f g ≡ 0 → (i : ℕ) × (i < N) × (P i ≡ Plus g)
         plus-g q = more-plus g (omega arith)

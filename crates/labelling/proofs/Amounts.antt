@@ -1,18 +1,15 @@
 -- The amount in the words of the rules is the least of what the pairs of the path let through.
-use mathlib.Core.Path.{_≡_, refl, sym, ap, ap₂, subst, subst⁻¹, _∙_}
-use mathlib.Core.Bool.{Bool, true, false, cond, not}
-use mathlib.Core.Logic.{inl, inr, _⊎_}
-use mathlib.Core.List.{List, [], _∷_}
-use Prim.Native.Nat.{ℕ, zero, suc, min, _+_, _-_, _≤_, _<_}
+use mathlib.Core.Path.{_≡_, refl, sym, ap, subst, subst⁻¹, _∙_}
+use mathlib.Core.Bool.{Bool, true, false, cond}
+use mathlib.Core.Logic.{inl, inr}
+use mathlib.Core.List.{List}
+use Prim.Native.Nat.{ℕ, zero, suc, _-_, _≤_, _<_}
 use native.Mathlib.Omega.{arith}
-use lib.Dec.{eqb}
-use Rattle.std.proofs.shelf.Tests.{cases-lt, both-ways, eqb-true, eq-eqb, ne-eqb}
-use Rattle.polymatroid.specs.Finite.{least}
+use Rattle.std.proofs.shelf.Tests.{cases-lt, eq-eqb, ne-eqb}
 use Rattle.polymatroid.proofs.Finite.{least-le, least-at}
 use Rattle.floor.specs.Meaning.{Meaning, Lawful}
-use Rattle.network.specs.States.{State, Pole, Plus, Minus, at, amount, roomAll, roomLess, Ok, Path}
+use Rattle.network.specs.States.{State, Pole, Plus, Minus, at, amount, laneRoom, laneRoomBut, On-floor, Path}
 use Rattle.network.specs.Feasible.{Fits}
-use Rattle.network.specs.Labelling.{Found}
 use Rattle.labelling.specs.Rules.{ruled}
 use Rattle.labelling.specs.Table.{Mark, Ended, label, path}
 use Rattle.labelling.specs.Amount.{roomBeside, term, leastTerm}
@@ -31,13 +28,13 @@ PartOut M f n x (Plus g) = n ≤ roomBeside M f false g x
 PartOut M f n x (Minus g) = n ≤ f g
 
 module _ (M : Meaning) (laws : Lawful M) (f : ℕ → ℕ) where
-  off : (d : Bool) (e g : ℕ) → (M .floor .end d g ≡ M .floor .end d e → ⊥) → roomBeside M f d e (Plus g) ≡ roomAll M f d e
-  off d e g ne = ap (λ b. cond b (roomLess M f d e g) (roomAll M f d e)) (ne-eqb (M .floor .end d g) (M .floor .end d e) ne)
+  off : (d : Bool) (e g : ℕ) → (M .floor .end d g ≡ M .floor .end d e → ⊥) → roomBeside M f d e (Plus g) ≡ laneRoom M f d e
+  off d e g ne = ap (λ b. cond b (laneRoomBut M f d e g) (laneRoom M f d e)) (ne-eqb (M .floor .end d g) (M .floor .end d e) ne)
 
-  on : (d : Bool) (e g : ℕ) → M .floor .end d g ≡ M .floor .end d e → roomBeside M f d e (Minus g) ≡ roomLess M f d e g
-  on d e g q = ap (λ b. cond b (roomLess M f d e g) (roomAll M f d e)) (eq-eqb (M .floor .end d g) (M .floor .end d e) q)
+  on : (d : Bool) (e g : ℕ) → M .floor .end d g ≡ M .floor .end d e → roomBeside M f d e (Minus g) ≡ laneRoomBut M f d e g
+  on d e g q = ap (λ b. cond b (laneRoomBut M f d e g) (laneRoom M f d e)) (eq-eqb (M .floor .end d g) (M .floor .end d e) q)
 
-  join : (n : ℕ) (x y : State) → Ok M x → Ok M y → at M true x ≡ at M false y → 0 < amount M f x y → PartIn M f n x y → PartOut M f n x y → n ≤ amount M f x y
+  join : (n : ℕ) (x y : State) → On-floor M x → On-floor M y → at M true x ≡ at M false y → 0 < amount M f x y → PartIn M f n x y → PartOut M f n x y → n ≤ amount M f x y
   join n (Pole true) (Pole c) a b m h p q = absurd (omega arith)
   join n (Pole false) (Pole c) a b m h p q = absurd (omega arith)
   join n (Pole false) (Plus g) a b m h p q = q
@@ -55,7 +52,7 @@ module _ (M : Meaning) (laws : Lawful M) (f : ℕ → ℕ) where
   join n (Minus e) (Plus g) a b m h p q = let u = on false g e m in omega (arith, u)
   join n (Minus e) (Minus g) a b m h p q = omega arith
 
-  part-in : (n : ℕ) (x y : State) → Ok M x → Ok M y → at M true x ≡ at M false y → n ≤ amount M f x y → PartIn M f n x y
+  part-in : (n : ℕ) (x y : State) → On-floor M x → On-floor M y → at M true x ≡ at M false y → n ≤ amount M f x y → PartIn M f n x y
   part-in n (Pole c) y a b m h = tt
   part-in n (Plus e) (Pole true) a b m h = h
   part-in n (Plus e) (Pole false) a b m h = omega arith
@@ -65,7 +62,7 @@ module _ (M : Meaning) (laws : Lawful M) (f : ℕ → ℕ) where
   part-in n (Minus e) (Plus g) a b m h = omega arith
   part-in n (Minus e) (Minus g) a b m h = omega arith
 
-  part-out : (n : ℕ) (x y : State) → Ok M x → Ok M y → at M true x ≡ at M false y → n ≤ amount M f x y → PartOut M f n x y
+  part-out : (n : ℕ) (x y : State) → On-floor M x → On-floor M y → at M true x ≡ at M false y → n ≤ amount M f x y → PartOut M f n x y
   part-out n x (Pole c) a b m h = tt
   part-out n (Pole false) (Plus g) a b m h = h
   part-out n (Pole true) (Plus g) a b m h = omega arith

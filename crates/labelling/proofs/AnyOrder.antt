@@ -1,17 +1,16 @@
 -- In whatever order the three cases of a scan are tried, each lane gets the same label.
-use mathlib.Core.Path.{_≡_, refl, sym, ap, ap₂, subst, subst⁻¹, _∙_}
-use mathlib.Core.Bool.{Bool, true, false, cond, not, _&&_, _||_}
+use mathlib.Core.Path.{_≡_, refl, sym, ap, subst, _∙_}
+use mathlib.Core.Bool.{Bool, true, false, not, _&&_}
 use mathlib.Core.List.{List, [], _∷_}
 use mathlib.Core.Logic.{inl, inr, _⊎_}
-use Prim.Native.Nat.{ℕ, zero, suc, _≤_, _<_}
+use Prim.Native.Nat.{ℕ, _<_}
 use native.Mathlib.Omega.{arith}
-use lib.Dec.{eqb, ltb}
+use lib.Dec.{eqb}
 use Rattle.std.proofs.shelf.Ways.{tells}
-use Rattle.std.proofs.shelf.Tests.{cases-bool, cases-eq, both-ways, eqb-true, eq-eqb, and-parts, and-from, not-true, not-from-false, ne-eqb, eqb-false}
+use Rattle.std.proofs.shelf.Tests.{cases-bool, both-ways, eqb-true, eq-eqb, and-parts, and-from, not-true, not-from-false, ne-eqb, eqb-false}
 use Rattle.floor.specs.Meaning.{Meaning, Lawful}
 use Rattle.network.specs.States.{State, Pole, Plus, Minus, at}
-use Rattle.labelling.specs.Rules.{full, inTight, ruled}
-use Rattle.labelling.specs.Table.{label}
+use Rattle.labelling.specs.Rules.{full, ruled}
 use Rattle.labelling.specs.Steps.{outcome}
 use Rattle.labelling.specs.Cases.{Case, FullPlus, FullMinus, Opening, opens, taken, byCase, signBy, isPlusLane, isMinusLane, ruledBy, Listed}
 use Rattle.labelling.specs.Theorems.{Any-order}

@@ -1,16 +1,16 @@
 -- The path that the labelling finds is an augmenting path, none is shorter, and it is the first of its length.
-use mathlib.Core.Path.{_≡_, refl, sym, ap, ap₂, subst, subst⁻¹, _∙_}
-use mathlib.Core.Bool.{Bool, true, false, cond, not}
+use mathlib.Core.Path.{_≡_, refl, sym, ap, subst, subst⁻¹, _∙_}
+use mathlib.Core.Bool.{Bool, true, false}
 use mathlib.Core.Logic.{inl, inr, _⊎_}
-use mathlib.Core.List.{List, [], _∷_}
-use Prim.Native.Nat.{ℕ, zero, suc, min, _+_, _-_, _≤_, _<_}
+use mathlib.Core.List.{List}
+use Prim.Native.Nat.{ℕ, zero, suc, _+_, _-_, _≤_, _<_}
 use native.Mathlib.Omega.{arith}
-use Rattle.std.proofs.shelf.Tests.{cases-lt, cases-eq, cases-bool, both-ways}
-use Rattle.levels.specs.Levels.{Walk, Level, Straight, Lowest}
+use Rattle.std.proofs.shelf.Tests.{cases-lt, cases-eq, cases-bool}
+use Rattle.levels.specs.Levels.{Walk, Level}
 use Rattle.floor.specs.Meaning.{Meaning, Lawful}
-use Rattle.network.specs.States.{State, Pole, Plus, Minus, at, amount, roomAll, roomLess, Ok, Turn, Step, Path}
+use Rattle.network.specs.States.{State, Pole, Plus, Minus, at, amount, laneRoom, laneRoomBut, On-floor, Turn, Step}
 use Rattle.network.specs.Feasible.{Fits}
-use Rattle.network.specs.Stages.{num}
+use Rattle.network.specs.Stages.{lane-number}
 use Rattle.network.specs.Labelling.{holder, Found}
 use Rattle.labelling.specs.Rules.{full, inTight, ruled, Carries}
 use Rattle.labelling.specs.Table.{Mark, Ended, label, path}
@@ -98,27 +98,27 @@ module _ (M : Meaning) (laws : Lawful M) (f : ℕ → ℕ) (fits : Fits M f) whe
       meet = λ i h. found .path .meet i (omega arith);
       carries = carries;
       followed = λ i e h q z.
-          follow e (P (suc i)) (subst (Ok M) q (found .path .ok i (omega arith))) (subst (λ x. 0 < amount M f x (P (suc i))) q (found .path .some i (omega arith))) z;
+          follow e (P (suc i)) (subst (On-floor M) q (found .path .ok i (omega arith))) (subst (λ x. 0 < amount M f x (P (suc i))) q (found .path .some i (omega arith))) z;
       preceded = λ i e h q z.
-          precede e (P i) (subst (Ok M) q (found .path .ok (suc i) (omega arith))) (subst (λ y. 0 < amount M f (P i) y) q (found .path .some i (omega arith))) z;
+          precede e (P i) (subst (On-floor M) q (found .path .ok (suc i) (omega arith))) (subst (λ y. 0 < amount M f (P i) y) q (found .path .some i (omega arith))) z;
     }
 
   module _ (Q : ℕ → State) (k : ℕ) (aug : Augmenting M f Q k) where
-    open-in : (i e : ℕ) → i ≤ k → Q i ≡ Plus e → e < M .floor .lanes → ((g : ℕ) → Q (suc i) ≡ Minus g → ⊥) → 0 < roomAll M f true e
+    open-in : (i e : ℕ) → i ≤ k → Q i ≡ Plus e → e < M .floor .lanes → ((g : ℕ) → Q (suc i) ≡ Minus g → ⊥) → 0 < laneRoom M f true e
     open-in i e h q o n =
         elim (cases-bool (full M f true e)) [
           | inl z ↦ let a = aug .followed i e h q z in absurd (n (a .0) (a .1))
           | inr z ↦ full-some M laws f fits true e o z
         ]
 
-    open-out : (i e : ℕ) → i ≤ k → Q (suc i) ≡ Plus e → e < M .floor .lanes → ((g : ℕ) → Q i ≡ Minus g → ⊥) → 0 < roomAll M f false e
+    open-out : (i e : ℕ) → i ≤ k → Q (suc i) ≡ Plus e → e < M .floor .lanes → ((g : ℕ) → Q i ≡ Minus g → ⊥) → 0 < laneRoom M f false e
     open-out i e h q o n =
         elim (cases-bool (full M f false e)) [
           | inl z ↦ let a = aug .preceded i e h q z in absurd (n (a .0) (a .1))
           | inr z ↦ full-some M laws f fits false e o z
         ]
 
-    room-in : (i e g : ℕ) → i ≤ k → Q i ≡ Plus e → Q (suc i) ≡ Minus g → e < M .floor .lanes → M .floor .end true g ≡ M .floor .end true e → (e ≡ g → ⊥) → 0 < roomLess M f true e g
+    room-in : (i e g : ℕ) → i ≤ k → Q i ≡ Plus e → Q (suc i) ≡ Minus g → e < M .floor .lanes → M .floor .end true g ≡ M .floor .end true e → (e ≡ g → ⊥) → 0 < laneRoomBut M f true e g
     room-in i e g h q r o m ne =
         elim (cases-bool (full M f true e)) [
           | inl z ↦
@@ -131,7 +131,7 @@ module _ (M : Meaning) (laws : Lawful M) (f : ℕ → ℕ) (fits : Fits M f) whe
         minus-same : (a b : ℕ) → Minus a ≡ Minus b → a ≡ b
         minus-same a b e = cc
 
-    room-out : (i e g : ℕ) → i ≤ k → Q (suc i) ≡ Plus e → Q i ≡ Minus g → e < M .floor .lanes → M .floor .end false g ≡ M .floor .end false e → (e ≡ g → ⊥) → 0 < roomLess M f false e g
+    room-out : (i e g : ℕ) → i ≤ k → Q (suc i) ≡ Plus e → Q i ≡ Minus g → e < M .floor .lanes → M .floor .end false g ≡ M .floor .end false e → (e ≡ g → ⊥) → 0 < laneRoomBut M f false e g
     room-out i e g h q r o m ne =
         elim (cases-bool (full M f false e)) [
           | inl z ↦
@@ -157,7 +157,7 @@ module _ (M : Meaning) (laws : Lawful M) (f : ℕ → ℕ) (fits : Fits M f) whe
     no-end : (i : ℕ) → i ≤ k → Q i ≡ Pole true → ⊥
     no-end i h q = aug .distinct i (suc k) (omega arith) (omega arith) (ap holder q ∙ sym (ap holder (aug .finish)))
 
-    lets : (i : ℕ) → i ≤ k → (x y : State) → Q i ≡ x → Q (suc i) ≡ y → Ok M x → Ok M y → at M true x ≡ at M false y → Carries f x → Carries f y
+    lets : (i : ℕ) → i ≤ k → (x y : State) → Q i ≡ x → Q (suc i) ≡ y → On-floor M x → On-floor M y → at M true x ≡ at M false y → Carries f x → Carries f y
         → (holder x ≡ holder y → ⊥) → 0 < amount M f x y
     lets i h (Pole true) y p q a b m c d ne = absurd (no-end i h p)
     lets i h (Pole false) (Pole false) p q a b m c d ne = absurd (ne refl)
@@ -224,7 +224,7 @@ module _ (M : Meaning) (laws : Lawful M) (f : ℕ → ℕ) (fits : Fits M f) whe
       }
 
       -- states of one number that step to one state are one
-      one-state : (x y z : State) → Ok M x → (x ≡ Pole true → ⊥) → (y ≡ Pole true → ⊥) → at M true x ≡ at M false z → at M true y ≡ at M false z → num x ≡ num y
+      one-state : (x y z : State) → On-floor M x → (x ≡ Pole true → ⊥) → (y ≡ Pole true → ⊥) → at M true x ≡ at M false z → at M true y ≡ at M false z → lane-number x ≡ lane-number y
           → (x ≡ Pole false → y ≡ Pole false) → (y ≡ Pole false → x ≡ Pole false) → x ≡ y
       one-state (Pole true) y z o nx ny a b q u v = absurd (nx refl)
       one-state (Pole false) y z o nx ny a b q u v = sym (u refl)
@@ -239,11 +239,11 @@ module _ (M : Meaning) (laws : Lawful M) (f : ℕ → ℕ) (fits : Fits M f) whe
 
 -- where two rows are one behind i, the one that was found has the lower number at i, or they are one at i
 first-at : (M : Meaning) (laws : Lawful M) (f : ℕ → ℕ) (fits : Fits M f) (Q : ℕ → State) (k : ℕ) (aug : Augmenting M f Q k)
-    (P : ℕ → State) (l : ℕ) (found : Found M f P (suc l)) → k ≡ l → (i : ℕ) → i ≤ l → Q (suc i) ≡ P (suc i) → (Q i ≡ P i) ⊎ (num (P i) < num (Q i))
+    (P : ℕ → State) (l : ℕ) (found : Found M f P (suc l)) → k ≡ l → (i : ℕ) → i ≤ l → Q (suc i) ≡ P (suc i) → (Q i ≡ P i) ⊎ (lane-number (P i) < lane-number (Q i))
 first-at M laws f fits Q k aug P l found e i h q =
     let s : Step M f (Q i) (P (suc i)) = subst (λ y. Step M f (Q i) y) q (link M laws f fits Q k aug i (omega arith)) in
     let low = found .lowest i (Q i) (omega arith) (level M laws f fits Q k aug P l found e i (omega arith)) s in
-    elim (cases-eq (num (Q i)) (num (P i))) [
+    elim (cases-eq (lane-number (Q i)) (lane-number (P i))) [
       | inl o ↦
           inl (one-state M laws f fits Q k aug P l found (Q i) (P i) (P (suc i)) (aug .ok i (omega arith)) (no-end M laws f fits Q k aug i (omega arith))
           (no-end M laws f fits P l pa i h) (s .meet) (found .path .meet i (omega arith)) o (to-start i h) (from-start i h))
@@ -271,7 +271,7 @@ pub path-first : (M : Meaning) (f : ℕ → ℕ) (l e : ℕ) (t : List Mark) →
     → (Q : ℕ → State) (k : ℕ) → Augmenting M f Q k
     → (l ≤ k)
     × (k ≡ l → (i : ℕ) → i ≤ l → ((j : ℕ) → i < j → j ≤ l → Q j ≡ path l e t j)
-    → (Q i ≡ path l e t i) ⊎ (num (path l e t i) < num (Q i)))
+    → (Q i ≡ path l e t i) ⊎ (lane-number (path l e t i) < lane-number (Q i)))
 path-first M f l e t laws fits q Q k aug = (
   no-shorter M laws f fits Q k aug (path l e t) l (rules-find M f l e t laws fits q),
   λ kl i h same.

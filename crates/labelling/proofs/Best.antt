@@ -1,22 +1,22 @@
 -- Without a path the plan carries the most; with one, some plan carries more.
-use mathlib.Core.Path.{_≡_, refl, sym, ap, subst, subst⁻¹, _∙_}
-use mathlib.Core.Bool.{Bool, true, false}
+use mathlib.Core.Path.{_≡_, refl, sym, ap, subst, subst⁻¹}
+use mathlib.Core.Bool.{true, false}
 use mathlib.Core.List.{List}
 use mathlib.Core.Option.{Option, none, some}
-use Prim.Native.Nat.{ℕ, zero, suc, _+_, _*_, _≤_, _<_}
+use Prim.Native.Nat.{ℕ}
 use native.Mathlib.Omega.{arith}
-use Rattle.floor.specs.Meaning.{Meaning, Lawful}
+use Rattle.floor.specs.Meaning.{Meaning}
 use Rattle.network.specs.States.{State}
 use Rattle.network.specs.Feasible.{Fits}
-use Rattle.network.specs.Cuts.{Balanced, FitsBy, total, capacity}
+use Rattle.network.specs.Cuts.{FitsBy, total, capacity}
 use Rattle.network.proofs.Cuts.{cut-bounds}
 use Rattle.network.proofs.Closed.{stock-near, despatch-far}
 use Rattle.labelling.specs.Rules.{ruled}
 use Rattle.labelling.specs.Table.{Mark, Finished, label}
 use Rattle.labelling.specs.Augmenting.{Augments}
 use Rattle.labelling.specs.Steps.{Move, step, made, outcome, tableOf, labels}
-use Rattle.labelling.specs.Near.{near, plused, minused, unlabelled}
-use Rattle.labelling.specs.Theorems.{Feasible, Best, No-path, More-carried, Finished-is-best, Path-missing-when-best}
+use Rattle.labelling.specs.Near.{near, plusLabelled, minusLabelled, unlabelled}
+use Rattle.labelling.specs.Theorems.{Best, No-path, More-carried, Finished-is-best, Path-missing-when-best}
 use Rattle.labelling.proofs.Closes.{rules-close, rules-best}
 use Rattle.labelling.proofs.Made.{step-finished}
 use Rattle.labelling.proofs.FirstPath.{first-shortest-path}
@@ -36,8 +36,8 @@ finished-is-best M f laws ok h = by (step-finished M f h .0) (step-finished M f 
         let c = rules-close M f t laws (ok .within) q in
         let b = rules-best M f t laws (ok .within) (ok .balanced) q in
         record {
-          stock-near = subst⁻¹ (λ t. near M f t (M .floor .pole false) ≡ true) is (stock-near M laws f (ok .within) (plused t) (minused t) (near M f t) c);
-          despatch-far = subst⁻¹ (λ t. near M f t (M .floor .pole true) ≡ false) is (despatch-far M laws f (ok .within) (plused t) (minused t) (near M f t) c);
+          stock-near = subst⁻¹ (λ t. near M f t (M .floor .pole false) ≡ true) is (stock-near M laws f (ok .within) (plusLabelled t) (minusLabelled t) (near M f t) c);
+          despatch-far = subst⁻¹ (λ t. near M f t (M .floor .pole true) ≡ false) is (despatch-far M laws f (ok .within) (plusLabelled t) (minusLabelled t) (near M f t) c);
           cut = subst⁻¹ (λ t. capacity M (near M f t) (unlabelled t) ≡ total M f) is (sym (b .0));
           no-cut-less = λ n u sn df. omega (arith, cut-bounds M n u laws sn df 1 f (ok .balanced) (once M f (ok .within)));
           none-carries-more = b .1;

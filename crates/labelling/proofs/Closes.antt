@@ -1,62 +1,60 @@
 -- Where the rules find no path, their labels are closed, and the plan is a best one.
-use mathlib.Core.Path.{_≡_, refl, sym, ap, ap₂, subst, subst⁻¹, _∙_}
-use mathlib.Core.Bool.{Bool, true, false, cond, not, _&&_, _||_}
+use mathlib.Core.Path.{_≡_, refl, ap, subst, subst⁻¹}
+use mathlib.Core.Bool.{Bool, true, false, not, _&&_, _||_}
 use mathlib.Core.Logic.{inl, inr, _⊎_}
-use mathlib.Core.List.{List, [], _∷_}
-use Prim.Native.Nat.{ℕ, zero, suc, _+_, _-_, _*_, _≤_, _<_}
+use mathlib.Core.List.{List}
+use Prim.Native.Nat.{ℕ, zero, suc, _-_, _*_, _≤_, _<_}
 use native.Mathlib.Omega.{arith}
 use lib.Dec.{eqb, ltb}
-use Rattle.std.proofs.shelf.Tests.{cases-lt, cases-bool, cases-eq, both-ways, eqb-true, eq-eqb, lt-ltb, ltb-true, and-parts, and-from, or-cases, or-left, or-right, not-true, not-from-false}
+use Rattle.std.proofs.shelf.Tests.{cases-lt, both-ways, eqb-true, eq-eqb, lt-ltb, ltb-true, and-parts, and-from, or-cases, or-left, or-right, not-true}
 use Rattle.polymatroid.specs.Finite.{first}
-use Rattle.polymatroid.proofs.Finite.{first-le, first-passes, first-before}
+use Rattle.polymatroid.proofs.Finite.{first-passes, first-before}
 use Rattle.floor.specs.Meaning.{Meaning, Lawful}
-use Rattle.network.specs.States.{State, Pole, Plus, Minus, at, amount, roomAll, Ok}
+use Rattle.network.specs.States.{State, Pole, Plus, Minus, at, On-floor}
 use Rattle.network.specs.Feasible.{Fits}
-use Rattle.network.specs.Labelling.{Gives}
+use Rattle.network.specs.Labelling.{Residual}
 use Rattle.network.specs.Cuts.{Balanced, FitsBy, total, capacity}
-use Rattle.network.specs.Finished.{Lab, LabLane, Opens, Closed}
+use Rattle.network.specs.Finished.{Labelled-state, Labelled-lane, Opens, Closed}
 use Rattle.network.proofs.Finished.{finished-best}
-use Rattle.labelling.specs.Rules.{full, ruled, Carries}
-use Rattle.labelling.specs.Table.{Mark, None, Mk, signed, mark, isPlus, isMinus, tab, Finished, label, Sits}
-use Rattle.labelling.specs.Near.{nears, near, plused, minused, unlabelled}
-use Rattle.labelling.proofs.Scan.{none-mk, cases-mark}
-use Rattle.labelling.proofs.Levels.{Good}
+use Rattle.labelling.specs.Rules.{full, ruled}
+use Rattle.labelling.specs.Table.{Mark, Blank, Given, signed, mark, isPlus, isMinus, tableUpTo, Finished, label, At-level}
+use Rattle.labelling.specs.Near.{nears, near, plusLabelled, minusLabelled, unlabelled}
 use Rattle.labelling.proofs.Rules.{full-some, some-full}
-use Rattle.labelling.proofs.Outcomes.{Unended, Done, Right, label-right}
-use Rattle.labelling.proofs.Finds.{T, good, lane-ok, sound, to-gives, from-gives, start-only, not-ended}
+use Rattle.labelling.proofs.Outcomes.{Done, Right, label-right}
+use Rattle.labelling.proofs.Finds.{T, good, sound, to-gives, from-gives, not-ended}
 
 -- signs and labels
-plus-at : (t : List Mark) (e : ℕ) → isPlus (mark t e) ≡ true → (i : ℕ) × Sits t i (Plus e)
+plus-at : (t : List Mark) (e : ℕ) → isPlus (mark t e) ≡ true → (i : ℕ) × At-level t i (Plus e)
 plus-at t e h = by (mark t e) refl h
   where
-    by : (p : Mark) → mark t e ≡ p → isPlus p ≡ true → (i : ℕ) × Sits t i (Plus e)
-    by None o q = absurd (both-ways false refl q)
-    by (Mk true z k) o q = (k, (z, o))
-    by (Mk false z k) o q = absurd (both-ways false refl q)
+    by : (p : Mark) → mark t e ≡ p → isPlus p ≡ true → (i : ℕ) × At-level t i (Plus e)
+    by Blank o q = absurd (both-ways false refl q)
+    by (Given true z k) o q = (k, (z, o))
+    by (Given false z k) o q = absurd (both-ways false refl q)
 
-minus-at : (t : List Mark) (e : ℕ) → isMinus (mark t e) ≡ true → (i : ℕ) × Sits t i (Minus e)
+minus-at : (t : List Mark) (e : ℕ) → isMinus (mark t e) ≡ true → (i : ℕ) × At-level t i (Minus e)
 minus-at t e h = by (mark t e) refl h
   where
-    by : (p : Mark) → mark t e ≡ p → isMinus p ≡ true → (i : ℕ) × Sits t i (Minus e)
-    by None o q = absurd (both-ways false refl q)
-    by (Mk true z k) o q = absurd (both-ways false refl q)
-    by (Mk false z k) o q = (k, (z, o))
+    by : (p : Mark) → mark t e ≡ p → isMinus p ≡ true → (i : ℕ) × At-level t i (Minus e)
+    by Blank o q = absurd (both-ways false refl q)
+    by (Given true z k) o q = absurd (both-ways false refl q)
+    by (Given false z k) o q = (k, (z, o))
 
-lab-sits : (t : List Mark) (x : State) → Lab (plused t) (minused t) x → (i : ℕ) × Sits t i x
+lab-sits : (t : List Mark) (x : State) → Labelled-state (plusLabelled t) (minusLabelled t) x → (i : ℕ) × At-level t i x
 lab-sits t (Pole false) h = (0, refl)
 lab-sits t (Pole true) h = absurd h
 lab-sits t (Plus e) h = plus-at t e h
 lab-sits t (Minus e) h = minus-at t e h
 
-sits-lab : (t : List Mark) (i : ℕ) (x : State) → Sits t i x → Lab (plused t) (minused t) x
+sits-lab : (t : List Mark) (i : ℕ) (x : State) → At-level t i x → Labelled-state (plusLabelled t) (minusLabelled t) x
 sits-lab t i (Pole false) s = tt
 sits-lab t i (Pole true) s = absurd s
 sits-lab t i (Plus e) s = ap isPlus (s .1)
 sits-lab t i (Minus e) s = ap isMinus (s .1)
 
-marked : (t : List Mark) (e : ℕ) (s : Bool) (z : State) (k : ℕ) → mark t e ≡ Mk s z k → (plused t e || minused t e) ≡ true
-marked t e true z k q = or-left (plused t e) (minused t e) (ap isPlus q)
-marked t e false z k q = or-right (plused t e) (minused t e) (ap isMinus q)
+marked : (t : List Mark) (e : ℕ) (s : Bool) (z : State) (k : ℕ) → mark t e ≡ Given s z k → (plusLabelled t e || minusLabelled t e) ≡ true
+marked t e true z k q = or-left (plusLabelled t e) (minusLabelled t e) (ap isPlus q)
+marked t e false z k q = or-right (plusLabelled t e) (minusLabelled t e) (ap isMinus q)
 
 -- some lane makes a station near
 some-lane : (M : Meaning) (f : ℕ → ℕ) (t : List Mark) (i e : ℕ) → e < M .floor .lanes → nears M f t i e ≡ true → near M f t i ≡ true
@@ -88,28 +86,28 @@ module _ (M : Meaning) (laws : Lawful M) (f : ℕ → ℕ) (fits : Fits M f) (l 
   U : List Mark
   U = T M laws f fits l
 
-  level-below : (i : ℕ) (x : State) → Sits U i x → i < l
+  level-below : (i : ℕ) (x : State) → At-level U i x → i < l
   unfolding U T
   level-below i x s =
       elim (cases-lt i l) [
         | inl h ↦ h
-        | inr h ↦ let o : i ≡ l = omega (arith, most i x s) in absurd (done .empty x (subst (λ j. Sits (tab (ruled M f) (M .floor .lanes) l) j x) o s))
+        | inr h ↦ let o : i ≡ l = omega (arith, most i x s) in absurd (done .empty x (subst (λ j. At-level (tableUpTo (ruled M f) (M .floor .lanes) l) j x) o s))
       ]
     where
-      most : (i : ℕ) (x : State) → Sits (tab (ruled M f) (M .floor .lanes) l) i x → i ≤ l
+      most : (i : ℕ) (x : State) → At-level (tableUpTo (ruled M f) (M .floor .lanes) l) i x → i ≤ l
       most i (Pole false) s = omega arith
       most i (Pole true) s = absurd s
       most i (Plus e) s = good M laws f fits l .most e true (s .0) i (s .1)
       most i (Minus e) s = good M laws f fits l .most e false (s .0) i (s .1)
 
-  given-lane : (e : ℕ) (s : Bool) (z : State) (k : ℕ) → mark U e ≡ Mk s z k → (x : State) × Lab (plused U) (minused U) x × (Ok M (signed s e) → Gives M f x (signed s e))
+  given-lane : (e : ℕ) (s : Bool) (z : State) (k : ℕ) → mark U e ≡ Given s z k → (x : State) × Labelled-state (plusLabelled U) (minusLabelled U) x × (On-floor M (signed s e) → Residual M f x (signed s e))
   unfolding U
   given-lane e s z zero q = absurd (omega (arith, good M laws f fits l .some e s z 0 q))
   given-lane e s z (suc i) q =
       let u = good M laws f fits l .up e s z i q in
       (z, sits-lab U i z u, λ o. to-gives M laws f fits l i z (signed s e) u o (good M laws f fits l .by e s z i q))
 
-  given : (y : State) → Ok M y → Lab (plused U) (minused U) y → (y ≡ Pole false) ⊎ ((x : State) × Lab (plused U) (minused U) x × Gives M f x y)
+  given : (y : State) → On-floor M y → Labelled-state (plusLabelled U) (minusLabelled U) y → (y ≡ Pole false) ⊎ ((x : State) × Labelled-state (plusLabelled U) (minusLabelled U) x × Residual M f x y)
   given (Pole false) o h = inl refl
   given (Pole true) o h = absurd h
   given (Plus e) o h =
@@ -121,13 +119,13 @@ module _ (M : Meaning) (laws : Lawful M) (f : ℕ → ℕ) (fits : Fits M f) (l 
       let g = given-lane e false (s .1 .0) (s .0) (s .1 .1) in
       inr (g .0, g .1, g .2 o)
 
-  lane-labelled : (i : ℕ) (x : State) (g : ℕ) (b : Bool) → Sits U i x → g < M .floor .lanes → ruled M f x (signed b g) ≡ true → (plused U g || minused U g) ≡ true
+  lane-labelled : (i : ℕ) (x : State) (g : ℕ) (b : Bool) → At-level U i x → g < M .floor .lanes → ruled M f x (signed b g) ≡ true → (plusLabelled U g || minusLabelled U g) ≡ true
   unfolding U
   lane-labelled i x g b s o h =
       let a = good M laws f fits l .all i x g b (level-below i x s) o s h in
       marked U g (a .0) (a .1) (a .2) (a .4)
 
-  closed-at : (i : ℕ) (x y : State) → Sits U i x → Gives M f x y → LabLane (plused U) (minused U) y
+  closed-at : (i : ℕ) (x y : State) → At-level U i x → Residual M f x y → Labelled-lane (plusLabelled U) (minusLabelled U) y
   unfolding U
   closed-at i x (Pole false) s g = tt
   closed-at i x (Pole true) s g =
@@ -136,7 +134,7 @@ module _ (M : Meaning) (laws : Lawful M) (f : ℕ → ℕ) (fits : Fits M f) (l 
   closed-at i x (Plus c) s g = lane-labelled i x c true s (g .ok-to) (from-gives M laws f fits l i x (Plus c) s g)
   closed-at i x (Minus c) s g = lane-labelled i x c false s (g .ok-to) (from-gives M laws f fits l i x (Minus c) s g)
 
-  near-if : (x : State) → Ok M x → Lab (plused U) (minused U) x → Opens M f x → near M f U (at M true x) ≡ true
+  near-if : (x : State) → On-floor M x → Labelled-state (plusLabelled U) (minusLabelled U) x → Opens M f x → near M f U (at M true x) ≡ true
   near-if (Pole false) o h p = stock-near M f U
   near-if (Pole true) o h p = absurd p
   near-if (Plus e) o h p =
@@ -149,7 +147,7 @@ module _ (M : Meaning) (laws : Lawful M) (f : ℕ → ℕ) (fits : Fits M f) (l 
       (or-left (isMinus (mark U e) && eqb (M .floor .end false e) (M .floor .end false e)) (isPlus (mark U e) && (not (full M f true e) && eqb (M .floor .end true e) (M .floor .end false e)))
       (and-from (isMinus (mark U e)) (eqb (M .floor .end false e) (M .floor .end false e)) h (eq-eqb (M .floor .end false e) (M .floor .end false e) refl)))
 
-  near-only : (i : ℕ) → near M f U i ≡ true → (x : State) × Ok M x × Lab (plused U) (minused U) x × Opens M f x × (at M true x ≡ i)
+  near-only : (i : ℕ) → near M f U i ≡ true → (x : State) × On-floor M x × Labelled-state (plusLabelled U) (minusLabelled U) x × Opens M f x × (at M true x ≡ i)
   unfolding U
   near-only i h =
       elim (near-lane M f U i h) [
@@ -157,7 +155,7 @@ module _ (M : Meaning) (laws : Lawful M) (f : ℕ → ℕ) (fits : Fits M f) (l 
         | inr c ↦ by (c .0) (c .1) (c .2)
       ]
     where
-      by : (e : ℕ) → e < M .floor .lanes → nears M f U i e ≡ true → (x : State) × Ok M x × Lab (plused U) (minused U) x × Opens M f x × (at M true x ≡ i)
+      by : (e : ℕ) → e < M .floor .lanes → nears M f U i e ≡ true → (x : State) × On-floor M x × Labelled-state (plusLabelled U) (minusLabelled U) x × Opens M f x × (at M true x ≡ i)
       by e o n =
           elim (or-cases (isMinus (mark U e) && eqb (M .floor .end false e) i) (isPlus (mark U e) && (not (full M f true e) && eqb (M .floor .end true e) i)) n) [
             | inl q ↦
@@ -170,7 +168,7 @@ module _ (M : Meaning) (laws : Lawful M) (f : ℕ → ℕ) (fits : Fits M f) (l 
                 (Plus e, o, a .0, full-some M laws f fits true e o (not-true (full M f true e) (b .0)), eqb-true (M .floor .end true e) i (b .1))
           ]
 
-  closes : Closed M f (plused U) (minused U) (near M f U)
+  closes : Closed M f (plusLabelled U) (minusLabelled U) (near M f U)
   closes = record {
     given = given;
     closed = λ x y h g. let s = lab-sits U x h in closed-at (s .0) x y (s .1) g;
@@ -178,25 +176,25 @@ module _ (M : Meaning) (laws : Lawful M) (f : ℕ → ℕ) (fits : Fits M f) (l 
     near-only = near-only;
   }
 
-closes-at : (M : Meaning) (laws : Lawful M) (f : ℕ → ℕ) (fits : Fits M f) (l : ℕ) → Done (ruled M f) (M .floor .lanes) l (tab (ruled M f) (M .floor .lanes) l)
-    → Closed M f (plused (tab (ruled M f) (M .floor .lanes) l)) (minused (tab (ruled M f) (M .floor .lanes) l)) (near M f (tab (ruled M f) (M .floor .lanes) l))
+closes-at : (M : Meaning) (laws : Lawful M) (f : ℕ → ℕ) (fits : Fits M f) (l : ℕ) → Done (ruled M f) (M .floor .lanes) l (tableUpTo (ruled M f) (M .floor .lanes) l)
+    → Closed M f (plusLabelled (tableUpTo (ruled M f) (M .floor .lanes) l)) (minusLabelled (tableUpTo (ruled M f) (M .floor .lanes) l)) (near M f (tableUpTo (ruled M f) (M .floor .lanes) l))
 unfolding T U
 closes-at M laws f fits l d = closes M laws f fits l d
 
 -- where the rules find no path, their labels are closed ..
 pub rules-close : (M : Meaning) (f : ℕ → ℕ) (t : List Mark) → Lawful M → Fits M f → label (ruled M f) (M .floor .lanes) ≡ Finished t
-    → Closed M f (plused t) (minused t) (near M f t)
+    → Closed M f (plusLabelled t) (minusLabelled t) (near M f t)
 rules-close M f t laws fits q =
     let r : Right (ruled M f) (M .floor .lanes) (Finished t) = subst (Right (ruled M f) (M .floor .lanes)) q (label-right (ruled M f) (M .floor .lanes)) in
     at-table (r .0) (r .1 .is) (r .1)
   where
-    at-table : (l : ℕ) → t ≡ tab (ruled M f) (M .floor .lanes) l → Done (ruled M f) (M .floor .lanes) l t → Closed M f (plused t) (minused t) (near M f t)
+    at-table : (l : ℕ) → t ≡ tableUpTo (ruled M f) (M .floor .lanes) l → Done (ruled M f) (M .floor .lanes) l t → Closed M f (plusLabelled t) (minusLabelled t) (near M f t)
     at-table l o d =
-        subst⁻¹ (λ t. Closed M f (plused t) (minused t) (near M f t)) o (closes-at M laws f fits l (subst (Done (ruled M f) (M .floor .lanes) l) o d))
+        subst⁻¹ (λ t. Closed M f (plusLabelled t) (minusLabelled t) (near M f t)) o (closes-at M laws f fits l (subst (Done (ruled M f) (M .floor .lanes) l) o d))
 
 -- .. so the plan carries what the cut lets through, and no plan carries more
 pub rules-best : (M : Meaning) (f : ℕ → ℕ) (t : List Mark) → Lawful M → Fits M f → Balanced M f → label (ruled M f) (M .floor .lanes) ≡ Finished t
     → (total M f ≡ capacity M (near M f t) (unlabelled t))
     × ((q : ℕ) (g : ℕ → ℕ) → Balanced M g → FitsBy M q g → total M g ≤ q * total M f)
 rules-best M f t laws fits bal q =
-    finished-best M f (plused t) (minused t) (near M f t) laws fits bal (rules-close M f t laws fits q)
+    finished-best M f (plusLabelled t) (minusLabelled t) (near M f t) laws fits bal (rules-close M f t laws fits q)

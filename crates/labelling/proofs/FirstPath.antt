@@ -1,30 +1,29 @@
 -- A step finds the first shortest augmenting path, or there is none.
-use mathlib.Core.Path.{_≡_, refl, sym, ap, ap₂, subst, subst⁻¹, _∙_}
-use mathlib.Core.Bool.{Bool, true, false}
-use mathlib.Core.List.{List, [], _∷_}
+use mathlib.Core.Path.{_≡_, sym, ap, subst, subst⁻¹, _∙_}
+use mathlib.Core.Bool.{true, false}
+use mathlib.Core.List.{List}
 use mathlib.Core.Logic.{inl, inr, _⊎_}
-use mathlib.Core.Option.{Option, none, some}
-use Prim.Native.Nat.{ℕ, zero, suc, _+_, _≤_, _<_}
+use Prim.Native.Nat.{ℕ, zero, suc, _≤_, _<_}
 use native.Mathlib.Omega.{arith}
-use lib.ListN.{length, getD}
+use lib.ListN.{length}
 use Rattle.std.proofs.shelf.Tests.{cases-eq}
 use Rattle.std.proofs.shelf.Lists.{ext-getD}
 use Rattle.levels.specs.Levels.{Walk}
 use Rattle.floor.specs.Meaning.{Meaning, Lawful}
-use Rattle.network.specs.States.{State, Pole, Plus, Minus, Step}
+use Rattle.network.specs.States.{State, Pole, Step}
 use Rattle.network.specs.Feasible.{Fits}
-use Rattle.network.specs.Stages.{num}
+use Rattle.network.specs.Stages.{lane-number}
 use Rattle.network.proofs.Unreached.{no-walk}
 use Rattle.labelling.specs.Rules.{ruled}
 use Rattle.labelling.specs.Table.{Mark, Ended, Finished, label, path}
 use Rattle.labelling.specs.Augmenting.{Augmenting, along, Augments, Before}
-use Rattle.labelling.specs.Steps.{row, Move, step}
-use Rattle.labelling.specs.Near.{near, plused, minused}
-use Rattle.labelling.specs.Theorems.{Feasible, First-shortest, No-path, First-shortest-path}
+use Rattle.labelling.specs.Steps.{row}
+use Rattle.labelling.specs.Near.{near, plusLabelled, minusLabelled}
+use Rattle.labelling.specs.Theorems.{First-shortest, No-path, First-shortest-path}
 use Rattle.labelling.proofs.Closes.{rules-close}
 use Rattle.labelling.proofs.Augmenting.{path-augments, path-first, walk}
 use Rattle.labelling.proofs.Rows.{row-length, augmenting-same}
-use Rattle.labelling.proofs.Made.{moveAlong, step-ended, step-finished, same-path}
+use Rattle.labelling.proofs.Made.{step-ended, step-finished, same-path}
 
 module _ (M : Meaning) (laws : Lawful M) (f : ℕ → ℕ) (fits : Fits M f) (l e : ℕ) (t : List Mark)
     (q : label (ruled M f) (M .floor .lanes) ≡ Ended l e t) where
@@ -43,7 +42,7 @@ module _ (M : Meaning) (laws : Lawful M) (f : ℕ → ℕ) (fits : Fits M f) (l 
     -- the place from the end at which the two first differ
     differ : length c ≡ l → (i : ℕ) → i ≤ l → ((j : ℕ) → i < j → j ≤ l → along c j ≡ path l e t j)
         → ((j : ℕ) → 0 < j → j ≤ l → along c j ≡ path l e t j)
-        ⊎ ((k : ℕ) × (k < l) × ((j : ℕ) → suc k < j → j ≤ l → along c j ≡ path l e t j) × (num (path l e t (suc k)) < num (along c (suc k))))
+        ⊎ ((k : ℕ) × (k < l) × ((j : ℕ) → suc k < j → j ≤ l → along c j ≡ path l e t j) × (lane-number (path l e t (suc k)) < lane-number (along c (suc k))))
     differ o zero h same = inl same
     differ o (suc i) h same =
         elim (path-first M f l e t laws fits q (along c) (length c) aug .1 o (suc i) h same) [
@@ -65,7 +64,7 @@ module _ (M : Meaning) (laws : Lawful M) (f : ℕ → ℕ) (fits : Fits M f) (l 
           | inr r ↦ at (r .0) (r .1) (r .2) (r .3)
         ]
       where
-        at : (k : ℕ) → k < l → ((j : ℕ) → suc k < j → j ≤ l → along c j ≡ path l e t j) → num (path l e t (suc k)) < num (along c (suc k))
+        at : (k : ℕ) → k < l → ((j : ℕ) → suc k < j → j ≤ l → along c j ≡ path l e t j) → lane-number (path l e t (suc k)) < lane-number (along c (suc k))
             → Before (row (path l e t) l) c
         at k h same low = (
           k,
@@ -73,7 +72,7 @@ module _ (M : Meaning) (laws : Lawful M) (f : ℕ → ℕ) (fits : Fits M f) (l 
           λ j a b.
               same-path M laws f fits l e t q (suc j) (omega (arith, row-length (path l e t) l))
               ∙ sym (same (suc j) (omega arith) (omega (arith, row-length (path l e t) l))),
-          omega (arith, ap num (same-path M laws f fits l e t q (suc k) (omega arith)), low),
+          omega (arith, ap lane-number (same-path M laws f fits l e t q (suc k) (omega arith)), low),
         )
 
   first-shortest : First-shortest M f (row (path l e t) l)
@@ -82,7 +81,7 @@ module _ (M : Meaning) (laws : Lawful M) (f : ℕ → ℕ) (fits : Fits M f) (l 
 -- no label is left to give: there is no path
 none-left : (M : Meaning) → Lawful M → (f : ℕ → ℕ) → Fits M f → (t : List Mark) → label (ruled M f) (M .floor .lanes) ≡ Finished t → No-path M f
 none-left M laws f fits t q c aug =
-    no-walk M laws f fits (plused t) (minused t) (near M f t) (rules-close M f t laws fits q) (suc (length c))
+    no-walk M laws f fits (plusLabelled t) (minusLabelled t) (near M f t) (rules-close M f t laws fits q) (suc (length c))
     (subst (Walk (Step M f) (Pole false) (suc (length c))) (aug .finish)
     (subst (λ x. Walk (Step M f) x (suc (length c)) (along c (suc (length c)))) (aug .begin)
     (walk M laws f fits (along c) (length c) aug (suc (length c)) (omega arith))))

@@ -1,13 +1,11 @@
 -- A step by cases: the path that the labelling found, its amount and the trays after the move; or the finished labelling.
-use mathlib.Core.Path.{_≡_, refl, sym, ap, ap₂, subst, subst⁻¹, _∙_}
-use mathlib.Core.Bool.{Bool, true, false}
-use mathlib.Core.List.{List, [], _∷_}
-use mathlib.Core.Option.{Option, none, some}
-use Prim.Native.Nat.{ℕ, zero, suc, _+_, _-_, _≤_, _<_}
+use mathlib.Core.Path.{_≡_, refl, sym, ap, _∙_}
+use mathlib.Core.List.{List}
+use mathlib.Core.Option.{none, some}
+use Prim.Native.Nat.{ℕ, suc, _-_, _≤_}
 use native.Mathlib.Omega.{arith}
-use lib.ListN.{length, getD}
 use Rattle.floor.specs.Meaning.{Meaning, Lawful}
-use Rattle.network.specs.States.{State, Pole, Plus, Minus, amount, walked}
+use Rattle.network.specs.States.{amount, augmented}
 use Rattle.network.specs.Feasible.{Fits}
 use Rattle.network.specs.Stages.{Stage}
 use Rattle.network.specs.Labelling.{Found}
@@ -15,7 +13,7 @@ use Rattle.labelling.specs.Rules.{ruled}
 use Rattle.labelling.specs.Table.{Mark, Outcome, Ended, Finished, label, path}
 use Rattle.labelling.specs.Augmenting.{along}
 use Rattle.labelling.specs.Amount.{leastTerm, amountOf}
-use Rattle.labelling.specs.Steps.{outcome, row, Move, moveOf, step, shifted, made}
+use Rattle.labelling.specs.Steps.{outcome, row, Move, moveOf, step, made}
 use Rattle.labelling.proofs.Finds.{rules-find}
 use Rattle.labelling.proofs.Pairs.{lets, tightest, stage}
 use Rattle.labelling.proofs.Amounts.{rules-amount, one-lane}
@@ -69,12 +67,12 @@ module _ (M : Meaning) (laws : Lawful M) (f : ℕ → ℕ) (fits : Fits M f) (l 
       ∙ leastTerm-same (path l e t) (along (row (path l e t) l)) l same-path M f (one-lane M laws f (path l e t) l (found-path .path))
       ∙ rules-amount M f l e t laws fits q
 
-  pub made-is : made (moveAlong M f l e t) f ≡ walked (lets M f (path l e t) (suc l)) (path l e t) (suc l) f
+  pub made-is : made (moveAlong M f l e t) f ≡ augmented (lets M f (path l e t) (suc l)) (path l e t) (suc l) f
   made-is =
       shifted-walked (amountOf M f (row (path l e t) l)) (row (path l e t) l) f
-      ∙ ap (λ k. walked (amountOf M f (row (path l e t) l)) (along (row (path l e t) l)) (suc k) f) (row-length (path l e t) l)
+      ∙ ap (λ k. augmented (amountOf M f (row (path l e t) l)) (along (row (path l e t) l)) (suc k) f) (row-length (path l e t) l)
       ∙ walked-same (path l e t) (along (row (path l e t) l)) l same-path (amountOf M f (row (path l e t) l)) f (suc l) (omega arith)
-      ∙ ap (λ n. walked n (path l e t) (suc l) f) amount-is
+      ∙ ap (λ n. augmented n (path l e t) (suc l) f) amount-is
 
   -- the move is a stage, limited by the first pair of least amount
   pub stage-is : Stage M f (path l e t) (suc l) (lets M f (path l e t) (suc l)) (tightest M f (path l e t) (suc l))

@@ -1,13 +1,13 @@
 -- A move keeps the plan feasible and adds its amount to the total.
-use mathlib.Core.Path.{_≡_, refl, sym, ap, ap₂, subst, subst⁻¹, _∙_}
-use mathlib.Core.Bool.{Bool, true, false}
-use mathlib.Core.List.{List, [], _∷_}
-use mathlib.Core.Option.{Option, none, some}
-use Prim.Native.Nat.{ℕ, zero, suc, _+_, _≤_, _<_}
+use mathlib.Core.Path.{_≡_, sym, ap, subst, subst⁻¹, _∙_}
+use mathlib.Core.Bool.{true}
+use mathlib.Core.List.{List}
+use mathlib.Core.Option.{some}
+use Prim.Native.Nat.{ℕ, suc, _+_, _≤_, _<_}
 use native.Mathlib.Omega.{arith}
 use lib.ListN.{length, getD}
 use Rattle.floor.specs.Meaning.{Meaning, Lawful}
-use Rattle.network.specs.States.{State, Pole, Plus, Minus, amount, walked}
+use Rattle.network.specs.States.{Pole, Minus, amount}
 use Rattle.network.specs.Feasible.{Fits}
 use Rattle.network.specs.Cuts.{Balanced, total}
 use Rattle.network.proofs.Loads.{minus-carries}
@@ -17,7 +17,7 @@ use Rattle.labelling.specs.Rules.{ruled}
 use Rattle.labelling.specs.Table.{Mark, Ended, label, path}
 use Rattle.labelling.specs.Amount.{amountOf}
 use Rattle.labelling.specs.Steps.{row, Move, step, made}
-use Rattle.labelling.specs.Theorems.{Feasible, Move-made, Moves-keep-plans-feasible}
+use Rattle.labelling.specs.Theorems.{Move-made, Moves-keep-plans-feasible}
 use Rattle.labelling.proofs.Pairs.{lets, lets-le, lets-some}
 use Rattle.labelling.proofs.Rows.{row-length, row-at}
 use Rattle.labelling.proofs.Made.{moveAlong, step-ended, found-path, amount-is, made-is, stage-is}

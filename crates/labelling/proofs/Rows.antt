@@ -1,16 +1,16 @@
 -- A path as a list of signed lanes and as a function on places are one.
 use mathlib.Core.Path.{_≡_, refl, sym, ap, ap₂, subst, subst⁻¹, _∙_}
-use mathlib.Core.Bool.{Bool, true, false}
+use mathlib.Core.Bool.{true, false}
 use mathlib.Core.List.{List, [], _∷_}
 use mathlib.Core.Logic.{inl, inr}
-use Prim.Native.Nat.{ℕ, zero, suc, _+_, _≤_, _<_}
+use Prim.Native.Nat.{ℕ, zero, suc, _≤_, _<_}
 use native.Mathlib.Omega.{arith}
 use lib.ListN.{length, getD}
 use Rattle.std.proofs.shelf.Tests.{cases-lt}
 use Rattle.polymatroid.specs.Finite.{least}
 use Rattle.polymatroid.proofs.Finite.{least-same-values}
 use Rattle.floor.specs.Meaning.{Meaning}
-use Rattle.network.specs.States.{State, Pole, Plus, Minus, Ok, at, applied, walked}
+use Rattle.network.specs.States.{State, Pole, On-floor, at, applied, augmented}
 use Rattle.network.specs.Labelling.{holder}
 use Rattle.labelling.specs.Rules.{Carries}
 use Rattle.labelling.specs.Augmenting.{Augmenting, along}
@@ -50,7 +50,7 @@ module _ (P Q : ℕ → State) (l : ℕ) (same : (i : ℕ) → i ≤ suc l → Q
   augmenting-same M f a = record {
     begin = same 0 (omega arith) ∙ a .begin;
     finish = same (suc l) (omega arith) ∙ a .finish;
-    ok = λ i h. subst⁻¹ (Ok M) (same i h) (a .ok i h);
+    ok = λ i h. subst⁻¹ (On-floor M) (same i h) (a .ok i h);
     distinct = λ i j h k q.
         a .distinct i j h k (ap holder (sym (same i (omega arith))) ∙ q ∙ ap holder (same j k));
     meet = λ i h. ap (at M true) (same i (omega arith)) ∙ a .meet i h ∙ ap (at M false) (sym (same (suc i) (omega arith)));
@@ -74,25 +74,25 @@ module _ (P Q : ℕ → State) (l : ℕ) (same : (i : ℕ) → i ≤ suc l → Q
       (term M f (Q 0) (Q 1) (Q 2)) l at-term
       ∙ ap (λ d. least (λ q. true) (λ q. term M f (P q) (P (suc q)) (P (suc (suc q)))) d l) (at-term 0 h)
 
-  pub walked-same : (n : ℕ) (f : ℕ → ℕ) (N : ℕ) → N ≤ suc (suc l) → walked n Q N f ≡ walked n P N f
-  unfolding walked
+  pub walked-same : (n : ℕ) (f : ℕ → ℕ) (N : ℕ) → N ≤ suc (suc l) → augmented n Q N f ≡ augmented n P N f
+  unfolding augmented
   walked-same n f zero h = refl
   walked-same n f (suc N) h = ap₂ (applied n) (same N (omega arith)) (walked-same n f N (omega arith))
 
 -- the first state can be taken first
-walked-front : (n : ℕ) (P : ℕ → State) (N : ℕ) (f : ℕ → ℕ) → walked n P (suc N) f ≡ walked n (λ i. P (suc i)) N (applied n (P 0) f)
-unfolding walked
+walked-front : (n : ℕ) (P : ℕ → State) (N : ℕ) (f : ℕ → ℕ) → augmented n P (suc N) f ≡ augmented n (λ i. P (suc i)) N (applied n (P 0) f)
+unfolding augmented
 walked-front n P zero f = refl
 walked-front n P (suc N) f = ap (applied n (P (suc N))) (walked-front n P N f)
 
-shifted-list : (n : ℕ) (p : List State) (f : ℕ → ℕ) → shifted n p f ≡ walked n (λ i. getD p i (Pole true)) (length p) f
-unfolding shifted walked
+shifted-list : (n : ℕ) (p : List State) (f : ℕ → ℕ) → shifted n p f ≡ augmented n (λ i. getD p i (Pole true)) (length p) f
+unfolding shifted augmented
 shifted-list n [] f = refl
 shifted-list n (x ∷ p) f =
     let one : length (x ∷ p) ≡ suc (length p) = omega arith in
     shifted-list n p (applied n x f) ∙ sym (walked-front n (λ i. getD (x ∷ p) i (Pole true)) (length p) f)
-    ∙ ap (λ k. walked n (λ i. getD (x ∷ p) i (Pole true)) k f) (sym one)
+    ∙ ap (λ k. augmented n (λ i. getD (x ∷ p) i (Pole true)) k f) (sym one)
 
-pub shifted-walked : (n : ℕ) (p : List State) (f : ℕ → ℕ) → shifted n p f ≡ walked n (along p) (suc (length p)) f
+pub shifted-walked : (n : ℕ) (p : List State) (f : ℕ → ℕ) → shifted n p f ≡ augmented n (along p) (suc (length p)) f
 unfolding along
 shifted-walked n p f = shifted-list n p f ∙ sym (walked-front n (along p) (length p) f)

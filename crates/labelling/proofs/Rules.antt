@@ -1,47 +1,41 @@
 -- The rules give a label where a pair of states lets an amount through, and nowhere else.
-use mathlib.Core.Path.{_≡_, refl, sym, ap, ap₂, subst, subst⁻¹, _∙_}
-use mathlib.Core.Bool.{Bool, true, false, cond, not, _&&_, _||_}
-use mathlib.Core.Logic.{inl, inr, _⊎_}
-use Prim.Native.Nat.{ℕ, zero, suc, min, _+_, _*_, _^_, _≤_, _<_}
+use mathlib.Core.Path.{_≡_, refl, sym, ap, subst, subst⁻¹, _∙_}
+use mathlib.Core.Bool.{Bool, true, false, cond, not, _&&_}
+use mathlib.Core.Logic.{inl, inr}
+use Prim.Native.Nat.{ℕ, _+_, _<_}
 use native.Mathlib.Omega.{arith}
 use lib.Dec.{eqb, ltb}
-use Rattle.std.proofs.shelf.Ways.{tells}
-use Rattle.std.proofs.shelf.Tests.{cases-lt, cases-bool, cases-eq, both-ways, eq-eqb, ne-eqb, eqb-true, eqb-false, lt-ltb, ltb-true, and-parts, and-from, not-from-true, not-from-false, not-true, not-false}
-use Rattle.polymatroid.specs.Sets.{has}
-use Rattle.polymatroid.specs.Side.{load, In, Out, Full, Tight, room, roomBut, tightSet, Within, Caps}
-use Rattle.polymatroid.proofs.Side.{tightSet-in, tightSet-smallest, tightSet-carries}
-use Rattle.polymatroid.proofs.Room.{room-but, roomBut-full, full-tight, tight-full, member-from-room, room-mono}
-use Rattle.floor.specs.Floor.{on, place, count, laneAt}
+use Rattle.std.proofs.shelf.Tests.{cases-bool, both-ways, eq-eqb, ne-eqb, eqb-true, eqb-false, lt-ltb, ltb-true, and-parts, and-from, not-from-false, not-true}
+use Rattle.polymatroid.specs.Side.{room}
 use Rattle.floor.specs.Meaning.{Meaning, Lawful}
-use Rattle.network.specs.Trays.{trays}
-use Rattle.network.specs.States.{State, Pole, Plus, Minus, at, roomAt, roomAll, roomLess, amount, Ok, Turn, Step}
+use Rattle.network.specs.States.{State, Pole, Plus, Minus, laneRoom, laneRoomBut, On-floor}
 use Rattle.network.specs.Feasible.{Fits}
-use Rattle.network.specs.Labelling.{Gives}
+use Rattle.network.specs.Labelling.{Residual}
 use Rattle.network.proofs.Rooms.{all-is, member-full, member-room, room-member, member-carries, room-less}
 use Rattle.labelling.specs.Rules.{full, inTight, ruled, Carries, Rules-give}
 
 module _ (M : Meaning) (laws : Lawful M) (f : ℕ → ℕ) (fits : Fits M f) where
   -- a lane is full where its room is 0
-  full-room : (d : Bool) (e : ℕ) → e < M .floor .lanes → full M f d e ≡ eqb (roomAll M f d e) 0
+  full-room : (d : Bool) (e : ℕ) → e < M .floor .lanes → full M f d e ≡ eqb (laneRoom M f d e) 0
   unfolding full
   full-room d e l = ap (λ n. eqb n 0) (sym (all-is M laws f fits d (M .floor .end d e) (laws .rules .end-on d e l) e refl))
 
-  pub full-zero : (d : Bool) (e : ℕ) → e < M .floor .lanes → full M f d e ≡ true → roomAll M f d e ≡ 0
-  full-zero d e l q = eqb-true (roomAll M f d e) 0 (sym (full-room d e l) ∙ q)
+  pub full-zero : (d : Bool) (e : ℕ) → e < M .floor .lanes → full M f d e ≡ true → laneRoom M f d e ≡ 0
+  full-zero d e l q = eqb-true (laneRoom M f d e) 0 (sym (full-room d e l) ∙ q)
 
-  pub full-some : (d : Bool) (e : ℕ) → e < M .floor .lanes → full M f d e ≡ false → 0 < roomAll M f d e
-  full-some d e l q = let h = eqb-false (roomAll M f d e) 0 (sym (full-room d e l) ∙ q) in omega arith
+  pub full-some : (d : Bool) (e : ℕ) → e < M .floor .lanes → full M f d e ≡ false → 0 < laneRoom M f d e
+  full-some d e l q = let h = eqb-false (laneRoom M f d e) 0 (sym (full-room d e l) ∙ q) in omega arith
 
-  pub some-full : (d : Bool) (e : ℕ) → e < M .floor .lanes → 0 < roomAll M f d e → not (full M f d e) ≡ true
+  pub some-full : (d : Bool) (e : ℕ) → e < M .floor .lanes → 0 < laneRoom M f d e → not (full M f d e) ≡ true
   some-full d e l q =
       elim (cases-bool (full M f d e))
       [ inl y ↦ absurd (omega (arith, full-zero d e l y)) | inr y ↦ not-from-false (full M f d e) y ]
 
-  pub tight-room : (d : Bool) (e g : ℕ) → e < M .floor .lanes → M .floor .end d g ≡ M .floor .end d e → (e ≡ g → ⊥) → inTight M f d e g ≡ true → 0 < roomLess M f d e g
+  pub tight-room : (d : Bool) (e g : ℕ) → e < M .floor .lanes → M .floor .end d g ≡ M .floor .end d e → (e ≡ g → ⊥) → inTight M f d e g ≡ true → 0 < laneRoomBut M f d e g
   unfolding inTight
   tight-room d e g l q ne h = member-room M laws f fits d (M .floor .end d e) (laws .rules .end-on d e l) e g l refl q ne h
 
-  pub room-tight : (d : Bool) (e g : ℕ) → e < M .floor .lanes → full M f d e ≡ true → 0 < roomLess M f d e g → inTight M f d e g ≡ true
+  pub room-tight : (d : Bool) (e g : ℕ) → e < M .floor .lanes → full M f d e ≡ true → 0 < laneRoomBut M f d e g → inTight M f d e g ≡ true
   unfolding inTight
   room-tight d e g l z h = room-member M laws f fits d (M .floor .end d e) (laws .rules .end-on d e l) e g l refl (full-zero d e l z) h
 
@@ -53,11 +47,11 @@ module _ (M : Meaning) (laws : Lawful M) (f : ℕ → ℕ) (fits : Fits M f) whe
   unfolding inTight
   tight-full-too d e g l lg q z h =
       full-room d g lg
-      ∙ eq-eqb (roomAll M f d g) 0 (member-full M laws f fits d (M .floor .end d e) (laws .rules .end-on d e l) e l refl (full-zero d e l z) g q h)
+      ∙ eq-eqb (laneRoom M f d g) 0 (member-full M laws f fits d (M .floor .end d e) (laws .rules .end-on d e l) e l refl (full-zero d e l z) g q h)
 
   -- a + lane and a - lane of its side
   plus-minus : (e g : ℕ) → e < M .floor .lanes → g < M .floor .lanes → M .floor .end true g ≡ M .floor .end true e → (e ≡ g → ⊥)
-      → cond (full M f true e) (inTight M f true e g) (ltb 0 (f g)) ≡ true → (0 < f g) × (0 < roomLess M f true e g)
+      → cond (full M f true e) (inTight M f true e g) (ltb 0 (f g)) ≡ true → (0 < f g) × (0 < laneRoomBut M f true e g)
   plus-minus e g l lg q ne h =
       elim (cases-bool (full M f true e)) [
         | inl y ↦
@@ -70,7 +64,7 @@ module _ (M : Meaning) (laws : Lawful M) (f : ℕ → ℕ) (fits : Fits M f) whe
       ]
 
   minus-plus : (e g : ℕ) → e < M .floor .lanes → g < M .floor .lanes → M .floor .end false g ≡ M .floor .end false e → (e ≡ g → ⊥)
-      → cond (full M f false g) (full M f false e && inTight M f false g e) true ≡ true → 0 < roomLess M f false g e
+      → cond (full M f false g) (full M f false e && inTight M f false g e) true ≡ true → 0 < laneRoomBut M f false g e
   minus-plus e g l lg q ne h =
       elim (cases-bool (full M f false g)) [
         | inl y ↦
@@ -81,7 +75,7 @@ module _ (M : Meaning) (laws : Lawful M) (f : ℕ → ℕ) (fits : Fits M f) whe
             omega (arith, room-less M laws f fits false g e lg (sym q) (λ o. ne (sym o)))
       ]
 
-  gives-from : (x y : State) → Ok M x → Ok M y → Carries f x → ruled M f x y ≡ true → Gives M f x y × Carries f y
+  gives-from : (x y : State) → On-floor M x → On-floor M y → Carries f x → ruled M f x y ≡ true → Residual M f x y × Carries f y
   unfolding ruled
   gives-from (Pole true) (Pole c) a b o h = absurd (both-ways false refl h)
   gives-from (Pole false) (Pole c) a b o h = absurd (both-ways false refl h)
@@ -121,7 +115,7 @@ module _ (M : Meaning) (laws : Lawful M) (f : ℕ → ℕ) (fits : Fits M f) whe
       let c = ltb-true 0 (f g) (p .1) in
       (record { ok-from = a; ok-to = b; meet = eqb-true (M .floor .end false e) (M .floor .end true g) (p .0); some = omega (arith, c, o); straight = λ t. t }, c)
 
-  gives-to : (x y : State) → Gives M f x y → ruled M f x y ≡ true
+  gives-to : (x y : State) → Residual M f x y → ruled M f x y ≡ true
   unfolding ruled
   gives-to (Pole true) (Pole c) r = absurd (omega (arith, r .some))
   gives-to (Pole false) (Pole c) r = absurd (omega (arith, r .some))

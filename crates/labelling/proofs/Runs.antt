@@ -1,25 +1,24 @@
 -- Moves one after another: their lengths never fall, and they are few.
 use mathlib.Core.Path.{_≡_, refl, sym, ap, subst, subst⁻¹, _∙_}
-use mathlib.Core.Bool.{Bool, true, false, cond}
+use mathlib.Core.Bool.{Bool, false, cond}
 use mathlib.Core.List.{List, [], _∷_}
-use mathlib.Core.Logic.{inl, inr}
-use mathlib.Core.Option.{Option, none, some}
-use Prim.Native.Nat.{ℕ, zero, suc, _+_, _-_, _*_, _≤_, _<_}
+use mathlib.Core.Option.{some}
+use Prim.Native.Nat.{ℕ, zero, suc, _+_, _-_, _≤_, _<_}
 use native.Mathlib.Omega.{arith}
 use lib.Dec.{eqb}
 use lib.ListN.{length, getD}
 use Rattle.levels.specs.Counting.{tally}
 use Rattle.levels.proofs.Counting.{tally-same, tally-first}
 use Rattle.floor.specs.Meaning.{Meaning, Lawful}
-use Rattle.network.specs.States.{State, Pole, walked}
+use Rattle.network.specs.States.{State, Pole, augmented}
 use Rattle.network.specs.Feasible.{Fits}
 use Rattle.network.specs.Stages.{Stage, Run}
 use Rattle.network.proofs.Stages.{lengths-rise}
 use Rattle.network.proofs.Bound.{few-share-a-length, few-stages}
 use Rattle.labelling.specs.Rules.{ruled}
 use Rattle.labelling.specs.Table.{Mark, Outcome, Ended, Finished, label, path}
-use Rattle.labelling.specs.Steps.{row, Move, step, made, Follow}
-use Rattle.labelling.specs.Theorems.{Feasible, how-many, lanes-at, Few, Moves-are-few}
+use Rattle.labelling.specs.Steps.{Move, step, made, Follow}
+use Rattle.labelling.specs.Theorems.{how-many, lanes-at, Moves-are-few}
 use Rattle.labelling.proofs.Pairs.{lets, tightest}
 use Rattle.labelling.proofs.Rows.{row-length}
 use Rattle.labelling.proofs.Made.{moveAlong, step-ended, made-is, stage-is}
@@ -54,7 +53,7 @@ nothing = record { lanes = []; amount = 0 }
 -- v is the move at the trays f, as a stage
 record Made (M : Meaning) (f : ℕ → ℕ) (o : Outcome) (v : Move) : Type 0 where
   stage : Stage M f (pathOf o) (lengthOf o) (letsOf M f o) (pairOf M f o)
-  leaves : made v f ≡ walked (letsOf M f o) (pathOf o) (lengthOf o) f
+  leaves : made v f ≡ augmented (letsOf M f o) (pathOf o) (lengthOf o) f
   lanes : length (v .lanes) ≡ lengthOf o - 1
 
 made-at : (M : Meaning) → Lawful M → (f : ℕ → ℕ) → Fits M f → (v : Move) → step M f ≡ some v → Made M f (label (ruled M f) (M .floor .lanes)) v

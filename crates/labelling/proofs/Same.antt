@@ -1,5 +1,5 @@
 -- Tests that agree on the lanes of the floor lead to one labelling.
-use mathlib.Core.Path.{_≡_, refl, sym, ap, ap₂, fun-ext, _∙_}
+use mathlib.Core.Path.{_≡_, refl, ap, ap₂, fun-ext, _∙_}
 use mathlib.Core.Bool.{Bool, true, false, cond, _&&_}
 use mathlib.Core.List.{List, [], _∷_}
 use Prim.Native.Nat.{ℕ, zero, suc, _+_, _≤_, _<_}
@@ -7,7 +7,7 @@ use native.Mathlib.Omega.{arith}
 use lib.Dec.{ltb}
 use Rattle.polymatroid.specs.Finite.{first}
 use Rattle.network.specs.States.{State, Pole, Plus, Minus}
-use Rattle.labelling.specs.Table.{Mark, None, Mk, mark, isAt, stateOf, give, scanned, listed, pass, tab, ender, some-at, Outcome, Ended, Finished, go, label}
+use Rattle.labelling.specs.Table.{Mark, Blank, Given, mark, isAt, stateOf, give, scanned, listed, pass, tableUpTo, endingLane, laneOfLevel, Ended, Finished, labelFrom, label}
 
 listed-same : (g h : ℕ → Mark) (n k : ℕ) → ((i : ℕ) → k ≤ i → i < k + n → g i ≡ h i) → listed g n k ≡ listed h n k
 unfolding listed
@@ -17,9 +17,9 @@ listed-same g h (suc n) k e = ap₂ (λ a b. a ∷ b) (e k (omega arith) (omega 
 module _ (r s : State → State → Bool) (m : ℕ) (plus : (x : State) (y : ℕ) → y < m → r x (Plus y) ≡ s x (Plus y))
     (minus : (x : State) (y : ℕ) → y < m → r x (Minus y) ≡ s x (Minus y)) (end : (x : State) → r x (Pole true) ≡ s x (Pole true)) where
   give-same : (x : State) (l y : ℕ) → y < m → (p : Mark) → give r x l y p ≡ give s x l y p
-  give-same x l y h None =
-      ap₂ (λ a b. cond a (Mk true x l) (cond b (Mk false x l) None)) (plus x y h) (minus x y h)
-  give-same x l y h (Mk b z k) = refl
+  give-same x l y h Blank =
+      ap₂ (λ a b. cond a (Given true x l) (cond b (Given false x l) Blank)) (plus x y h) (minus x y h)
+  give-same x l y h (Given b z k) = refl
 
   scanned-same : (t : List Mark) (l n y : ℕ) → y < m → scanned r t l n y ≡ scanned s t l n y
   unfolding scanned
@@ -34,17 +34,17 @@ module _ (r s : State → State → Bool) (m : ℕ) (plus : (x : State) (y : ℕ
       listed-same (λ y. give r (Pole false) 1 y (mark t y)) (λ y. give s (Pole false) 1 y (mark t y)) m 0 (λ y a b. give-same (Pole false) 1 y (omega arith) (mark t y))
   pass-same (suc l) t = listed-same (scanned r t (suc l) m) (scanned s t (suc l) m) m 0 (λ y a b. scanned-same t (suc l) m y (omega arith))
 
-  ender-same : (l : ℕ) (t : List Mark) → ender r m l t ≡ ender s m l t
-  unfolding ender
+  ender-same : (l : ℕ) (t : List Mark) → endingLane r m l t ≡ endingLane s m l t
+  unfolding endingLane
   ender-same l t = ap (λ h. first h m) (fun-ext (λ e. ap (λ b. isAt l (mark t e) && b) (end (stateOf e (mark t e)))))
 
-  go-same : (n l : ℕ) (t : List Mark) → go r m n l t ≡ go s m n l t
-  unfolding go
+  go-same : (n l : ℕ) (t : List Mark) → labelFrom r m n l t ≡ labelFrom s m n l t
+  unfolding labelFrom
   go-same zero l t = refl
   go-same (suc n) l t =
-      ap₂ (λ a o. cond (ltb a m) (Ended l a t) (cond (ltb (some-at m l t) m) o (Finished t))) (ender-same l t)
-      (go-same n (suc l) (pass r m l t) ∙ ap (go s m n (suc l)) (pass-same l t))
+      ap₂ (λ a o. cond (ltb a m) (Ended l a t) (cond (ltb (laneOfLevel m l t) m) o (Finished t))) (ender-same l t)
+      (go-same n (suc l) (pass r m l t) ∙ ap (labelFrom s m n (suc l)) (pass-same l t))
 
   pub label-same : label r m ≡ label s m
-  unfolding label tab
-  label-same = go-same (suc m) 1 (pass r m 0 []) ∙ ap (go s m (suc m) 1) (pass-same 0 [])
+  unfolding label tableUpTo
+  label-same = go-same (suc m) 1 (pass r m 0 []) ∙ ap (labelFrom s m (suc m) 1) (pass-same 0 [])

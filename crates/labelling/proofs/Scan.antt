@@ -1,15 +1,14 @@
 -- What the scan of a level does to the table.
 use mathlib.Core.Path.{_≡_, refl, sym, ap, subst, subst⁻¹, _∙_}
-use mathlib.Core.Bool.{Bool, true, false, cond, not, _&&_}
+use mathlib.Core.Bool.{Bool, true, false, cond, not}
 use mathlib.Core.Logic.{inl, inr, _⊎_}
-use mathlib.Core.List.{List, [], _∷_}
+use mathlib.Core.List.{List, []}
 use Prim.Native.Nat.{ℕ, zero, suc, _+_, _-_, _≤_, _<_}
 use native.Mathlib.Omega.{arith}
-use lib.Dec.{eqb, ltb}
-use Rattle.std.proofs.shelf.Tests.{cases-lt, cases-bool, cases-eq, both-ways, eqb-true, eq-eqb}
+use Rattle.std.proofs.shelf.Tests.{cases-lt, both-ways, eqb-true, eq-eqb}
 use Rattle.network.specs.States.{State, Pole, Plus, Minus}
-use Rattle.network.specs.Stages.{num}
-use Rattle.labelling.specs.Table.{Mark, None, Mk, signed, mark, isAt, stateOf, give, scanned, listed, pass, tab, Sits}
+use Rattle.network.specs.Stages.{lane-number}
+use Rattle.labelling.specs.Table.{Mark, Blank, Given, signed, mark, isAt, stateOf, give, scanned, listed, pass, At-level}
 
 -- the table of a list
 pub listed-at : (h : ℕ → Mark) (n k i : ℕ) → i < n → mark (listed h n k) i ≡ h (k + i)
@@ -18,46 +17,46 @@ listed-at h zero k i l = absurd (omega arith)
 listed-at h (suc n) k zero l = ap h (omega arith)
 listed-at h (suc n) k (suc i) l = listed-at h n (suc k) i (omega arith) ∙ ap h (omega arith)
 
-pub listed-off : (h : ℕ → Mark) (n k i : ℕ) → n ≤ i → mark (listed h n k) i ≡ None
+pub listed-off : (h : ℕ → Mark) (n k i : ℕ) → n ≤ i → mark (listed h n k) i ≡ Blank
 unfolding mark listed
 listed-off h zero k i l = refl
 listed-off h (suc n) k zero l = absurd (omega arith)
 listed-off h (suc n) k (suc i) l = listed-off h n (suc k) i (omega arith)
 
-pub none-mk : {A : Type 0} (p : Mark) (s : Bool) (z : State) (k : ℕ) → p ≡ None → p ≡ Mk s z k → A
+pub none-mk : {A : Type 0} (p : Mark) (s : Bool) (z : State) (k : ℕ) → p ≡ Blank → p ≡ Given s z k → A
 none-mk p s z k a b = let q : _≡_ {A = ℕ} 0 1 = cc in absurd (omega arith)
 
-pub cases-mark : (p : Mark) → (p ≡ None) ⊎ ((s : Bool) × (z : State) × (k : ℕ) × (p ≡ Mk s z k))
-cases-mark None = inl refl
-cases-mark (Mk s z k) = inr (s, z, k, refl)
+pub cases-mark : (p : Mark) → (p ≡ Blank) ⊎ ((s : Bool) × (z : State) × (k : ℕ) × (p ≡ Given s z k))
+cases-mark Blank = inl refl
+cases-mark (Given s z k) = inr (s, z, k, refl)
 
 -- a labelled state by its mark
-pub sits-signed : (t : List Mark) (i : ℕ) (s : Bool) (e : ℕ) (z : State) → mark t e ≡ Mk s z i → Sits t i (signed s e)
+pub sits-signed : (t : List Mark) (i : ℕ) (s : Bool) (e : ℕ) (z : State) → mark t e ≡ Given s z i → At-level t i (signed s e)
 sits-signed t i true e z q = (z, q)
 sits-signed t i false e z q = (z, q)
 
 pub record Passed (r : State → State → Bool) (m l : ℕ) (t u : List Mark) : Type 0 where
-  pub keeps : (y : ℕ) (s : Bool) (z : State) (k : ℕ) → y < m → mark t y ≡ Mk s z k → mark u y ≡ Mk s z k
-  pub fresh : (y : ℕ) (s : Bool) (z : State) (k : ℕ) → y < m → mark t y ≡ None → mark u y ≡ Mk s z k
-      → (k ≡ suc l) × Sits t l z × (r z (signed s y) ≡ true) × ((x : State) (b : Bool) → Sits t l x → r x (signed b y) ≡ true → num z ≤ num x)
-  pub none : (y : ℕ) → y < m → mark u y ≡ None → (x : State) (b : Bool) → Sits t l x → r x (signed b y) ≡ true → ⊥
-  pub off : (y : ℕ) → m ≤ y → mark u y ≡ None
+  pub keeps : (y : ℕ) (s : Bool) (z : State) (k : ℕ) → y < m → mark t y ≡ Given s z k → mark u y ≡ Given s z k
+  pub fresh : (y : ℕ) (s : Bool) (z : State) (k : ℕ) → y < m → mark t y ≡ Blank → mark u y ≡ Given s z k
+      → (k ≡ suc l) × At-level t l z × (r z (signed s y) ≡ true) × ((x : State) (b : Bool) → At-level t l x → r x (signed b y) ≡ true → lane-number z ≤ lane-number x)
+  pub none : (y : ℕ) → y < m → mark u y ≡ Blank → (x : State) (b : Bool) → At-level t l x → r x (signed b y) ≡ true → ⊥
+  pub off : (y : ℕ) → m ≤ y → mark u y ≡ Blank
 
 module _ (r : State → State → Bool) where
   -- what a lane without a label has after the scan of the lanes below n
   unfoldable pub Told : List Mark → ℕ → ℕ → ℕ → Mark → Type 0
-  Told t l y n None = (e : ℕ) → e < n → isAt l (mark t e) ≡ true → (b : Bool) → r (stateOf e (mark t e)) (signed b y) ≡ false
-  Told t l y n (Mk s z k) =
+  Told t l y n Blank = (e : ℕ) → e < n → isAt l (mark t e) ≡ true → (b : Bool) → r (stateOf e (mark t e)) (signed b y) ≡ false
+  Told t l y n (Given s z k) =
       (k ≡ suc l) × (e : ℕ) × (e < n) × (isAt l (mark t e) ≡ true) × (z ≡ stateOf e (mark t e)) × (r z (signed s y) ≡ true)
       × ((d : ℕ) → d < e → isAt l (mark t d) ≡ true → (b : Bool) → r (stateOf d (mark t d)) (signed b y) ≡ false)
 
-  more : (t : List Mark) (l y n : ℕ) (s : Bool) (z : State) (k : ℕ) → Told t l y n (Mk s z k) → Told t l y (suc n) (Mk s z k)
+  more : (t : List Mark) (l y n : ℕ) (s : Bool) (z : State) (k : ℕ) → Told t l y n (Given s z k) → Told t l y (suc n) (Given s z k)
   unfolding Told
   more t l y n s z k h = (h .0, h .1, omega (arith, h .2), h .3, h .4, h .5, h .6)
 
-  gives-told : (t : List Mark) (l y n : ℕ) → Told t l y n None → isAt l (mark t n) ≡ true
+  gives-told : (t : List Mark) (l y n : ℕ) → Told t l y n Blank → isAt l (mark t n) ≡ true
       → (a c : Bool) → r (stateOf n (mark t n)) (Plus y) ≡ a → r (stateOf n (mark t n)) (Minus y) ≡ c
-      → Told t l y (suc n) (cond a (Mk true (stateOf n (mark t n)) (suc l)) (cond c (Mk false (stateOf n (mark t n)) (suc l)) None))
+      → Told t l y (suc n) (cond a (Given true (stateOf n (mark t n)) (suc l)) (cond c (Given false (stateOf n (mark t n)) (suc l)) Blank))
   unfolding Told
   gives-told t l y n h q true c p o = (refl, n, omega arith, q, refl, p, h)
   gives-told t l y n h q false true p o = (refl, n, omega arith, q, refl, o, h)
@@ -73,50 +72,50 @@ module _ (r : State → State → Bool) where
   told-step : (t : List Mark) (l y n : ℕ) (a : Bool) → isAt l (mark t n) ≡ a → (p : Mark) → Told t l y n p
       → Told t l y (suc n) (cond a (give r (stateOf n (mark t n)) (suc l) y p) p)
   unfolding Told
-  told-step t l y n true q (Mk s z k) h = more t l y n s z k h
-  told-step t l y n true q None h =
+  told-step t l y n true q (Given s z k) h = more t l y n s z k h
+  told-step t l y n true q Blank h =
       gives-told t l y n h q (r (stateOf n (mark t n)) (Plus y)) (r (stateOf n (mark t n)) (Minus y)) refl refl
-  told-step t l y n false q (Mk s z k) h = more t l y n s z k h
-  told-step t l y n false q None h =
+  told-step t l y n false q (Given s z k) h = more t l y n s z k h
+  told-step t l y n false q Blank h =
       λ e w v b. elim (cases-lt e n) [ inl g ↦ h e g v b | inr g ↦ absurd (last e (omega arith) v) ]
     where
       last : (e : ℕ) → n ≡ e → isAt l (mark t e) ≡ true → ⊥
       last e g v = both-ways (isAt l (mark t n)) q (subst⁻¹ (λ e. isAt l (mark t e) ≡ true) g v)
 
-  pub told : (t : List Mark) (l y n : ℕ) → mark t y ≡ None → Told t l y n (scanned r t l n y)
+  pub told : (t : List Mark) (l y n : ℕ) → mark t y ≡ Blank → Told t l y n (scanned r t l n y)
   unfolding Told scanned
   told t l y zero q = subst⁻¹ (Told t l y 0) q (λ e w v b. absurd (omega arith))
   told t l y (suc n) q = told-step t l y n (isAt l (mark t n)) refl (scanned r t l n y) (told t l y n q)
 
-  pub kept : (t : List Mark) (l y n : ℕ) (s : Bool) (z : State) (k : ℕ) → mark t y ≡ Mk s z k → scanned r t l n y ≡ Mk s z k
+  pub kept : (t : List Mark) (l y n : ℕ) (s : Bool) (z : State) (k : ℕ) → mark t y ≡ Given s z k → scanned r t l n y ≡ Given s z k
   unfolding scanned
   kept t l y zero s z k q = q
   kept t l y (suc n) s z k q = by (isAt l (mark t n)) (scanned r t l n y) (kept t l y n s z k q)
     where
-      by : (a : Bool) (p : Mark) → p ≡ Mk s z k → cond a (give r (stateOf n (mark t n)) (suc l) y p) p ≡ Mk s z k
-      by true p e = subst⁻¹ (λ p. give r (stateOf n (mark t n)) (suc l) y p ≡ Mk s z k) e refl
+      by : (a : Bool) (p : Mark) → p ≡ Given s z k → cond a (give r (stateOf n (mark t n)) (suc l) y p) p ≡ Given s z k
+      by true p e = subst⁻¹ (λ p. give r (stateOf n (mark t n)) (suc l) y p ≡ Given s z k) e refl
       by false p e = e
 
   -- the lane of a labelled state that is not the start
-  pub lane-of : (t : List Mark) (l : ℕ) (x : State) → Sits t (suc l) x → (isAt (suc l) (mark t (num x)) ≡ true) × (stateOf (num x) (mark t (num x)) ≡ x)
+  pub lane-of : (t : List Mark) (l : ℕ) (x : State) → At-level t (suc l) x → (isAt (suc l) (mark t (lane-number x)) ≡ true) × (stateOf (lane-number x) (mark t (lane-number x)) ≡ x)
   lane-of t l (Pole false) h = absurd (omega arith)
   lane-of t l (Pole true) h = absurd h
   lane-of t l (Plus e) h = (ap (isAt (suc l)) (h .1) ∙ eq-eqb (suc l) (suc l) refl, ap (stateOf e) (h .1))
   lane-of t l (Minus e) h = (ap (isAt (suc l)) (h .1) ∙ eq-eqb (suc l) (suc l) refl, ap (stateOf e) (h .1))
 
-  num-signed : (s : Bool) (e : ℕ) → num (signed s e) ≡ e
+  num-signed : (s : Bool) (e : ℕ) → lane-number (signed s e) ≡ e
   num-signed true e = refl
   num-signed false e = refl
 
-  pub state-sits : (t : List Mark) (l e : ℕ) → isAt l (mark t e) ≡ true → Sits t l (stateOf e (mark t e)) × (num (stateOf e (mark t e)) ≡ e)
+  pub state-sits : (t : List Mark) (l e : ℕ) → isAt l (mark t e) ≡ true → At-level t l (stateOf e (mark t e)) × (lane-number (stateOf e (mark t e)) ≡ e)
   state-sits t l e q = by (mark t e) refl q
     where
-      by : (p : Mark) → mark t e ≡ p → isAt l p ≡ true → Sits t l (stateOf e p) × (num (stateOf e p) ≡ e)
-      by None o h = let z : _≡_ {A = ℕ} 0 1 = cc in absurd (omega arith)
-      by (Mk s z k) o h =
-          (sits-signed t l s e z (o ∙ ap (Mk s z) (eqb-true k l h)), num-signed s e)
+      by : (p : Mark) → mark t e ≡ p → isAt l p ≡ true → At-level t l (stateOf e p) × (lane-number (stateOf e p) ≡ e)
+      by Blank o h = let z : _≡_ {A = ℕ} 0 1 = cc in absurd (omega arith)
+      by (Given s z k) o h =
+          (sits-signed t l s e z (o ∙ ap (Given s z) (eqb-true k l h)), num-signed s e)
 
-  start-is : (t : List Mark) (x : State) → ((y : ℕ) (s : Bool) (z : State) → mark t y ≡ Mk s z 0 → ⊥) → Sits t 0 x → x ≡ Pole false
+  start-is : (t : List Mark) (x : State) → ((y : ℕ) (s : Bool) (z : State) → mark t y ≡ Given s z 0 → ⊥) → At-level t 0 x → x ≡ Pole false
   start-is t (Pole false) h s = refl
   start-is t (Pole true) h s = absurd s
   start-is t (Plus e) h s = absurd (h e true (s .0) (s .1))
@@ -126,44 +125,44 @@ module _ (r : State → State → Bool) where
   listed-is h m y l = listed-at h m 0 y l ∙ ap h (omega arith)
 
   -- the scan of the lanes of a level
-  module _ (m l : ℕ) (t : List Mark) (off : (y : ℕ) → m ≤ y → mark t y ≡ None) where
-    below : (x : State) → Sits t (suc l) x → num x < m
+  module _ (m l : ℕ) (t : List Mark) (off : (y : ℕ) → m ≤ y → mark t y ≡ Blank) where
+    below : (x : State) → At-level t (suc l) x → lane-number x < m
     below x s =
-        elim (cases-lt (num x) m) [
+        elim (cases-lt (lane-number x) m) [
           | inl h ↦ h
-          | inr h ↦ absurd (both-ways (isAt (suc l) (mark t (num x))) (ap (isAt (suc l)) (off (num x) (omega arith))) (lane-of t l x s .0))
+          | inr h ↦ absurd (both-ways (isAt (suc l) (mark t (lane-number x))) (ap (isAt (suc l)) (off (lane-number x) (omega arith))) (lane-of t l x s .0))
         ]
 
-    fresh-told : (y : ℕ) (s : Bool) (z : State) (k : ℕ) → Told t (suc l) y m (Mk s z k)
-        → (k ≡ suc (suc l)) × Sits t (suc l) z × (r z (signed s y) ≡ true)
-        × ((x : State) (b : Bool) → Sits t (suc l) x → r x (signed b y) ≡ true → num z ≤ num x)
+    fresh-told : (y : ℕ) (s : Bool) (z : State) (k : ℕ) → Told t (suc l) y m (Given s z k)
+        → (k ≡ suc (suc l)) × At-level t (suc l) z × (r z (signed s y) ≡ true)
+        × ((x : State) (b : Bool) → At-level t (suc l) x → r x (signed b y) ≡ true → lane-number z ≤ lane-number x)
     unfolding Told
     fresh-told y s z k h = by (h .0) (h .1) (h .2) (h .3) (h .4) (h .5) (h .6)
       where
         by : k ≡ suc (suc l) → (e : ℕ) → e < m → isAt (suc l) (mark t e) ≡ true → z ≡ stateOf e (mark t e) → r z (signed s y) ≡ true
             → ((d : ℕ) → d < e → isAt (suc l) (mark t d) ≡ true → (b : Bool) → r (stateOf d (mark t d)) (signed b y) ≡ false)
-            → (k ≡ suc (suc l)) × Sits t (suc l) z × (r z (signed s y) ≡ true)
-            × ((x : State) (b : Bool) → Sits t (suc l) x → r x (signed b y) ≡ true → num z ≤ num x)
+            → (k ≡ suc (suc l)) × At-level t (suc l) z × (r z (signed s y) ≡ true)
+            × ((x : State) (b : Bool) → At-level t (suc l) x → r x (signed b y) ≡ true → lane-number z ≤ lane-number x)
         by a e b c q d g =
             let st = state-sits t (suc l) e c in
-            let nz : num z ≡ e = ap num q ∙ st .1 in (
+            let nz : lane-number z ≡ e = ap lane-number q ∙ st .1 in (
               a,
-              subst⁻¹ (Sits t (suc l)) q (st .0),
+              subst⁻¹ (At-level t (suc l)) q (st .0),
               d,
               λ x bb sx rx.
-                  elim (cases-lt (num x) e) [
+                  elim (cases-lt (lane-number x) e) [
                     | inl h ↦
                         let o = lane-of t l x sx in
-                        absurd (both-ways (r x (signed bb y)) (subst (λ x. r x (signed bb y) ≡ false) (o .1) (g (num x) h (o .0) bb)) rx)
+                        absurd (both-ways (r x (signed bb y)) (subst (λ x. r x (signed bb y) ≡ false) (o .1) (g (lane-number x) h (o .0) bb)) rx)
                     | inr h ↦ omega arith
                   ],
             )
 
-    none-told : (y : ℕ) → Told t (suc l) y m None → (x : State) (b : Bool) → Sits t (suc l) x → r x (signed b y) ≡ true → ⊥
+    none-told : (y : ℕ) → Told t (suc l) y m Blank → (x : State) (b : Bool) → At-level t (suc l) x → r x (signed b y) ≡ true → ⊥
     unfolding Told
     none-told y h x b sx rx =
         let o = lane-of t l x sx in
-        both-ways (r x (signed b y)) (subst (λ x. r x (signed b y) ≡ false) (o .1) (h (num x) (below x sx) (o .0) b)) rx
+        both-ways (r x (signed b y)) (subst (λ x. r x (signed b y) ≡ false) (o .1) (h (lane-number x) (below x sx) (o .0) b)) rx
 
     pub passed-suc : Passed r m (suc l) t (pass r m (suc l) t)
     unfolding pass
@@ -186,14 +185,14 @@ module _ (r : State → State → Bool) where
     given y = give r (Pole false) 1 y (mark [] y)
 
     Start : ℕ → Mark → Type 0
-    Start y None = (b : Bool) → r (Pole false) (signed b y) ≡ false
-    Start y (Mk s z k) = (k ≡ 1) × (z ≡ Pole false) × (r (Pole false) (signed s y) ≡ true)
+    Start y Blank = (b : Bool) → r (Pole false) (signed b y) ≡ false
+    Start y (Given s z k) = (k ≡ 1) × (z ≡ Pole false) × (r (Pole false) (signed s y) ≡ true)
 
     start-told : (y : ℕ) → Start y (given y)
     unfolding Start given mark
     start-told y = by (r (Pole false) (Plus y)) (r (Pole false) (Minus y)) refl refl
       where
-        by : (a c : Bool) → r (Pole false) (Plus y) ≡ a → r (Pole false) (Minus y) ≡ c → Start y (cond a (Mk true (Pole false) 1) (cond c (Mk false (Pole false) 1) None))
+        by : (a c : Bool) → r (Pole false) (Plus y) ≡ a → r (Pole false) (Minus y) ≡ c → Start y (cond a (Given true (Pole false) 1) (cond c (Given false (Pole false) 1) Blank))
         by true c p q = (refl, refl, p)
         by false true p q = (refl, refl, q)
         by false false p q = both
@@ -202,24 +201,24 @@ module _ (r : State → State → Bool) where
             both true = p
             both false = q
 
-    mark-nil : (y : ℕ) → mark [] y ≡ None
+    mark-nil : (y : ℕ) → mark [] y ≡ Blank
     unfolding mark
     mark-nil y = refl
 
-    start-only : (x : State) → Sits [] 0 x → x ≡ Pole false
+    start-only : (x : State) → At-level [] 0 x → x ≡ Pole false
     start-only x s = start-is [] x (λ y s z q. none-mk (mark [] y) s z 0 (mark-nil y) q) s
 
-    start-fresh : (y : ℕ) (s : Bool) (z : State) (k : ℕ) → Start y (Mk s z k)
-        → (k ≡ 1) × Sits [] 0 z × (r z (signed s y) ≡ true) × ((x : State) (b : Bool) → Sits [] 0 x → r x (signed b y) ≡ true → num z ≤ num x)
+    start-fresh : (y : ℕ) (s : Bool) (z : State) (k : ℕ) → Start y (Given s z k)
+        → (k ≡ 1) × At-level [] 0 z × (r z (signed s y) ≡ true) × ((x : State) (b : Bool) → At-level [] 0 x → r x (signed b y) ≡ true → lane-number z ≤ lane-number x)
     unfolding Start
     start-fresh y s z k h = (
       h .0,
-      subst⁻¹ (Sits [] 0) (h .1) refl,
+      subst⁻¹ (At-level [] 0) (h .1) refl,
       subst⁻¹ (λ z. r z (signed s y) ≡ true) (h .1) (h .2),
-      λ x b sx rx. let q : num z ≡ 0 = ap num (h .1) in omega arith,
+      λ x b sx rx. let q : lane-number z ≡ 0 = ap lane-number (h .1) in omega arith,
     )
 
-    start-none : (y : ℕ) → Start y None → (x : State) (b : Bool) → Sits [] 0 x → r x (signed b y) ≡ true → ⊥
+    start-none : (y : ℕ) → Start y Blank → (x : State) (b : Bool) → At-level [] 0 x → r x (signed b y) ≡ true → ⊥
     unfolding Start
     start-none y h x b sx rx = both-ways (r (Pole false) (signed b y)) (h b) (subst (λ x. r x (signed b y) ≡ true) (start-only x sx) rx)
 

@@ -1,22 +1,21 @@
 -- A table that changes as it is scanned has the labels of the rules.
-use mathlib.Core.Path.{_≡_, refl, sym, ap, ap₂, subst, subst⁻¹, _∙_}
+use mathlib.Core.Path.{_≡_, refl, sym, ap, subst, _∙_}
 use mathlib.Core.Bool.{Bool, true, false, cond}
 use mathlib.Core.Logic.{inl, inr, _⊎_}
 use mathlib.Core.List.{List}
 use Prim.Native.Nat.{ℕ, zero, suc, _≤_, _<_}
 use native.Mathlib.Omega.{arith}
-use lib.Dec.{eqb}
 use Rattle.std.proofs.shelf.Tests.{ne-eqb}
 use Rattle.network.specs.States.{State}
-use Rattle.labelling.specs.Table.{Mark, None, Mk, mark, isAt, stateOf, give, scanned, listed}
+use Rattle.labelling.specs.Table.{Mark, Blank, Given, mark, isAt, stateOf, give, scanned, listed}
 use Rattle.labelling.specs.Sweep.{scan, swept, Sweeps-agree}
 use Rattle.labelling.proofs.Scan.{cases-mark, Told, told, kept, listed-is}
 
 module _ (r : State → State → Bool) (l : ℕ) (t : List Mark) where
   fresh-level : (y n : ℕ) (p : Mark) → Told r t l y n p → isAt l p ≡ false
   unfolding Told
-  fresh-level y n None h = refl
-  fresh-level y n (Mk s z k) h = ne-eqb k l (λ o. omega (arith, h .0))
+  fresh-level y n Blank h = refl
+  fresh-level y n (Given s z k) h = ne-eqb k l (λ o. omega (arith, h .0))
 
   -- a lane's label while the level is scanned: as it was, or not of the level
   agree : (n y : ℕ) → (scanned r t l n y ≡ mark t y) ⊎ ((isAt l (scanned r t l n y) ≡ false) × (isAt l (mark t y) ≡ false))

@@ -1,11 +1,10 @@
 -- Tests that a worked floor passes, and that they show what they should.
-use mathlib.Core.Path.{_≡_, refl, sym, ap, ap₂, subst, subst⁻¹, _∙_}
+use mathlib.Core.Path.{_≡_, refl, ap, ap₂}
 use mathlib.Core.Bool.{Bool, true, false, cond, not, _&&_, _||_}
 use mathlib.Core.List.{List, [], _∷_}
-use mathlib.Core.Logic.{inl, inr, _⊎_}
+use mathlib.Core.Logic.{inl, inr}
 use mathlib.Core.Option.{Option, none, some}
-use Prim.Native.Nat.{ℕ, zero, suc, _+_, _*_, _^_, _≤_, _<_}
-use native.Mathlib.Omega.{arith}
+use Prim.Native.Nat.{ℕ, _^_, _<_}
 use lib.Dec.{eqb, ltb, leb}
 use Rattle.std.specs.shelf.Lists.{All}
 use Rattle.std.proofs.shelf.Tests.{both-ways, and-parts, or-cases, not-true, eqb-true, eqb-false, ltb-true, leb-true}
@@ -15,13 +14,12 @@ use Rattle.polymatroid.specs.Tables.{every, broken}
 use Rattle.polymatroid.proofs.Tables.{every-at, named}
 use Rattle.floor.specs.Numbers.{most-stations, most-lanes, most-on-side, top-cap}
 use Rattle.floor.specs.Floor.{Floor, Floor-rules, count}
-use Rattle.floor.specs.Meaning.{Meaning, Lawful}
+use Rattle.floor.specs.Meaning.{Meaning}
 use Rattle.network.specs.Trays.{trays}
 use Rattle.network.specs.States.{State, Pole, Plus, Minus}
 use Rattle.network.specs.Feasible.{Fits}
 use Rattle.network.specs.Cuts.{through, total, Balanced}
 use Rattle.labelling.specs.Steps.{Move, step, made, Follow, madeAll}
-use Rattle.labelling.specs.Theorems.{Feasible}
 use Rattle.labelling.specs.Worked.{Worked, Works, nth}
 
 -- both ends pass

@@ -1,13 +1,13 @@
 -- Augmenting paths, as the rules word them.
 use mathlib.Core.Path.{_≡_}
-use mathlib.Core.Bool.{Bool, true, false}
-use mathlib.Core.List.{List, [], _∷_}
+use mathlib.Core.Bool.{true, false}
+use mathlib.Core.List.{List}
 use Prim.Native.Nat.{ℕ, zero, suc, _≤_, _<_}
 use lib.ListN.{length, getD}
 use Rattle.floor.specs.Floor.{leaving, entering}
 use Rattle.floor.specs.Meaning.{Meaning}
-use Rattle.network.specs.States.{State, Pole, Plus, Minus, Ok, at}
-use Rattle.network.specs.Stages.{num}
+use Rattle.network.specs.States.{State, Pole, Plus, Minus, On-floor, at}
+use Rattle.network.specs.Stages.{lane-number}
 use Rattle.network.specs.Labelling.{holder}
 use Rattle.labelling.specs.Rules.{full, inTight, Carries}
 
@@ -16,7 +16,7 @@ use Rattle.labelling.specs.Rules.{full, inTight, Carries}
 pub record Augmenting (M : Meaning) (f : ℕ → ℕ) (Q : ℕ → State) (k : ℕ) : Type 0 where
   pub begin : Q 0 ≡ Pole false
   pub finish : Q (suc k) ≡ Pole true
-  pub ok : (i : ℕ) → i ≤ suc k → Ok M (Q i)
+  pub ok : (i : ℕ) → i ≤ suc k → On-floor M (Q i)
   pub distinct : (i j : ℕ) → i < j → j ≤ suc k → holder (Q i) ≡ holder (Q j) → ⊥
   -- each begins at the station where the one before it ends
   pub meet : (i : ℕ) → i ≤ k → at M entering (Q i) ≡ at M leaving (Q (suc i))
@@ -41,4 +41,4 @@ Augments M f p = Augmenting M f (along p) (length p)
 abbrev pub Before : List State → List State → Type 0
 Before p q =
     (i : ℕ) × (i < length p) × ((j : ℕ) → i < j → j < length p → getD p j (Pole true) ≡ getD q j (Pole true))
-    × (num (getD p i (Pole true)) < num (getD q i (Pole true)))
+    × (lane-number (getD p i (Pole true)) < lane-number (getD q i (Pole true)))

@@ -1,14 +1,13 @@
 -- The three cases of a scan, as the rules list them, and the labels that they give in any order.
 use mathlib.Core.Path.{_≡_}
-use mathlib.Core.Bool.{Bool, true, false, cond, not, _&&_, _||_}
+use mathlib.Core.Bool.{Bool, true, false, cond, not, _&&_}
 use mathlib.Core.List.{List, [], _∷_}
 use mathlib.Core.Logic.{_⊎_}
-use Prim.Native.Nat.{ℕ, zero, suc}
+use Prim.Native.Nat.{ℕ}
 use lib.Dec.{eqb, ltb}
 use Rattle.floor.specs.Floor.{leaving, entering}
 use Rattle.floor.specs.Meaning.{Meaning}
 use Rattle.network.specs.States.{State, Pole, Plus, Minus, at}
-use Rattle.network.specs.Stages.{num}
 use Rattle.labelling.specs.Rules.{full, inTight, ruled}
 
 pub data Case : Type 0 where

@@ -1,5 +1,5 @@
 -- The cut that the labels show when no path is left.
-use mathlib.Core.Bool.{Bool, true, false, not, _&&_, _||_}
+use mathlib.Core.Bool.{Bool, not, _&&_, _||_}
 use mathlib.Core.List.{List}
 use Prim.Native.Nat.{ℕ}
 use lib.Dec.{eqb, ltb}
@@ -10,16 +10,16 @@ use Rattle.labelling.specs.Rules.{full}
 use Rattle.labelling.specs.Table.{Mark, mark, isPlus, isMinus}
 
 -- the lanes with +, and those with -
-abbrev pub plused : List Mark → ℕ → Bool
-plused t e = isPlus (mark t e)
+abbrev pub plusLabelled : List Mark → ℕ → Bool
+plusLabelled t e = isPlus (mark t e)
 
-abbrev pub minused : List Mark → ℕ → Bool
-minused t e = isMinus (mark t e)
+abbrev pub minusLabelled : List Mark → ℕ → Bool
+minusLabelled t e = isMinus (mark t e)
 
 -- lane e makes station i near: a - lane that leaves it, or a + lane that enters it without being full there
 abbrev pub nears : Meaning → (ℕ → ℕ) → List Mark → ℕ → ℕ → Bool
 nears M f t i e =
-    (minused t e && eqb (M .floor .end leaving e) i) || (plused t e && (not (full M f entering e) && eqb (M .floor .end entering e) i))
+    (minusLabelled t e && eqb (M .floor .end leaving e) i) || (plusLabelled t e && (not (full M f entering e) && eqb (M .floor .end entering e) i))
 
 -- the near stations: the stock, and those that a lane makes near
 unfoldable pub near : Meaning → (ℕ → ℕ) → List Mark → ℕ → Bool
@@ -27,4 +27,4 @@ near M f t i = eqb (stock (M .floor)) i || ltb (first (nears M f t i) (M .floor 
 
 -- of the lanes from near to far, those without a label count where they leave, the others where they enter
 abbrev pub unlabelled : List Mark → ℕ → Bool
-unlabelled t e = not (plused t e || minused t e)
+unlabelled t e = not (plusLabelled t e || minusLabelled t e)

@@ -1,16 +1,16 @@
 -- Which label a scanned lane gives, in the words of the rules: rooms, and smallest tight sets.
 use mathlib.Core.Path.{_≡_}
 use mathlib.Core.Bool.{Bool, true, false, cond, not, _&&_}
-use Prim.Native.Nat.{ℕ, _≤_, _<_}
+use Prim.Native.Nat.{ℕ, _<_}
 use lib.Dec.{eqb, ltb}
 use Rattle.polymatroid.specs.Sets.{has}
 use Rattle.polymatroid.specs.Side.{room, tightSet}
 use Rattle.floor.specs.Floor.{place, count}
 use Rattle.floor.specs.Meaning.{Meaning, Lawful}
 use Rattle.network.specs.Trays.{trays}
-use Rattle.network.specs.States.{State, Pole, Plus, Minus, Ok}
+use Rattle.network.specs.States.{State, Pole, Plus, Minus, On-floor}
 use Rattle.network.specs.Feasible.{Fits}
-use Rattle.network.specs.Labelling.{Gives}
+use Rattle.network.specs.Labelling.{Residual}
 
 -- lane e is full at its end d: the least that is left below the cap of a set with e is 0
 unfoldable pub full : Meaning → (ℕ → ℕ) → Bool → ℕ → Bool
@@ -51,5 +51,5 @@ Carries f (Minus e) = 0 < f e
 -- the rules give where the pair lets an amount through, and nowhere else
 abbrev pub Rules-give : Type 0
 Rules-give =
-    (M : Meaning) (f : ℕ → ℕ) → Lawful M → Fits M f → (x y : State) → Ok M x → Ok M y → Carries f x
-    → (ruled M f x y ≡ true → Gives M f x y × Carries f y) × (Gives M f x y → ruled M f x y ≡ true)
+    (M : Meaning) (f : ℕ → ℕ) → Lawful M → Fits M f → (x y : State) → On-floor M x → On-floor M y → Carries f x
+    → (ruled M f x y ≡ true → Residual M f x y × Carries f y) × (Residual M f x y → ruled M f x y ≡ true)

@@ -1,17 +1,17 @@
 -- The table of labels, level by level.
 use mathlib.Core.Path.{_≡_}
-use mathlib.Core.Bool.{Bool, true, false, cond, not, _&&_, _||_}
+use mathlib.Core.Bool.{Bool, true, false, cond, not, _&&_}
 use mathlib.Core.List.{List, [], _∷_}
-use Prim.Native.Nat.{ℕ, zero, suc, _+_, _-_, _≤_, _<_}
+use Prim.Native.Nat.{ℕ, zero, suc, _+_, _-_}
 use lib.Dec.{eqb, ltb}
 use lib.ListN.{getD}
-use Rattle.polymatroid.specs.Finite.{first, least}
+use Rattle.polymatroid.specs.Finite.{first}
 use Rattle.network.specs.States.{State, Pole, Plus, Minus}
 
 -- a lane's label: its sign (true is +), the state that was scanned when it was given, its level
 pub data Mark : Type 0 where
-  None : Mark
-  Mk : Bool → State → ℕ → Mark
+  Blank : Mark
+  Given : Bool → State → ℕ → Mark
 
 abbrev pub signed : Bool → ℕ → State
 signed true e = Plus e
@@ -19,22 +19,22 @@ signed false e = Minus e
 
 -- the label of lane e
 unfoldable pub mark : List Mark → ℕ → Mark
-mark t e = getD t e None
+mark t e = getD t e Blank
 
 -- a label of level l
 abbrev pub isAt : ℕ → Mark → Bool
-isAt l None = false
-isAt l (Mk s x k) = eqb k l
+isAt l Blank = false
+isAt l (Given s x k) = eqb k l
 
 -- lane e with the sign of its label
 abbrev pub stateOf : ℕ → Mark → State
-stateOf e None = Pole true
-stateOf e (Mk s x k) = signed s e
+stateOf e Blank = Pole true
+stateOf e (Given s x k) = signed s e
 
 -- the label of lane y after x has been scanned: a lane that has one keeps it
 abbrev pub give : (State → State → Bool) → State → ℕ → ℕ → Mark → Mark
-give r x l y None = cond (r x (Plus y)) (Mk true x l) (cond (r x (Minus y)) (Mk false x l) None)
-give r x l y (Mk s z k) = Mk s z k
+give r x l y Blank = cond (r x (Plus y)) (Given true x l) (cond (r x (Minus y)) (Given false x l) Blank)
+give r x l y (Given s z k) = Given s z k
 
 -- the label of lane y after those lanes below n that are of level l have been scanned in their order
 unfoldable pub scanned : (State → State → Bool) → List Mark → ℕ → ℕ → ℕ → Mark
@@ -53,17 +53,17 @@ pass r m zero t = listed (λ y. give r (Pole false) 1 y (mark t y)) m 0
 pass r m (suc l) t = listed (scanned r t (suc l) m) m 0
 
 -- the table with the levels up to l
-unfoldable pub tab : (State → State → Bool) → ℕ → ℕ → List Mark
-tab r m zero = []
-tab r m (suc l) = pass r m l (tab r m l)
+unfoldable pub tableUpTo : (State → State → Bool) → ℕ → ℕ → List Mark
+tableUpTo r m zero = []
+tableUpTo r m (suc l) = pass r m l (tableUpTo r m l)
 
 -- the lowest lane of level l that ends a path, or m
-unfoldable pub ender : (State → State → Bool) → ℕ → ℕ → List Mark → ℕ
-ender r m l t = first (λ e. isAt l (mark t e) && r (stateOf e (mark t e)) (Pole true)) m
+unfoldable pub endingLane : (State → State → Bool) → ℕ → ℕ → List Mark → ℕ
+endingLane r m l t = first (λ e. isAt l (mark t e) && r (stateOf e (mark t e)) (Pole true)) m
 
 -- a lane of level l, or m
-unfoldable pub some-at : ℕ → ℕ → List Mark → ℕ
-some-at m l t = first (λ e. isAt l (mark t e)) m
+unfoldable pub laneOfLevel : ℕ → ℕ → List Mark → ℕ
+laneOfLevel m l t = first (λ e. isAt l (mark t e)) m
 
 -- how a labelling comes out: with a path of l lanes that ends in lane e, or finished
 pub data Outcome : Type 0 where
@@ -71,18 +71,18 @@ pub data Outcome : Type 0 where
   Finished : List Mark → Outcome
 
 -- after level l: a path, or an empty level, or the next level
-unfoldable pub go : (State → State → Bool) → ℕ → ℕ → ℕ → List Mark → Outcome
-go r m zero l t = Finished t
-go r m (suc n) l t =
-    cond (ltb (ender r m l t) m) (Ended l (ender r m l t) t) (cond (ltb (some-at m l t) m) (go r m n (suc l) (pass r m l t)) (Finished t))
+unfoldable pub labelFrom : (State → State → Bool) → ℕ → ℕ → ℕ → List Mark → Outcome
+labelFrom r m zero l t = Finished t
+labelFrom r m (suc n) l t =
+    cond (ltb (endingLane r m l t) m) (Ended l (endingLane r m l t) t) (cond (ltb (laneOfLevel m l t) m) (labelFrom r m n (suc l) (pass r m l t)) (Finished t))
 
 unfoldable pub label : (State → State → Bool) → ℕ → Outcome
-label r m = go r m (suc m) 1 (tab r m 1)
+label r m = labelFrom r m (suc m) 1 (tableUpTo r m 1)
 
 -- the state before x, by the names; the end's name is the lane that ends the path
 abbrev pub nameOf : Mark → State
-nameOf None = Pole false
-nameOf (Mk s x k) = x
+nameOf Blank = Pole false
+nameOf (Given s x k) = x
 
 unfoldable pub name : ℕ → List Mark → State → State
 name e t (Pole false) = Pole false
@@ -100,24 +100,24 @@ unfoldable pub path : ℕ → ℕ → List Mark → ℕ → State
 path l e t i = back e t (suc l - i)
 
 -- the state has its label at level i
-abbrev pub Sits : List Mark → ℕ → State → Type 0
-Sits t i (Pole false) = i ≡ 0
-Sits t i (Pole true) = ⊥
-Sits t i (Plus e) = (z : State) × (mark t e ≡ Mk true z i)
-Sits t i (Minus e) = (z : State) × (mark t e ≡ Mk false z i)
+abbrev pub At-level : List Mark → ℕ → State → Type 0
+At-level t i (Pole false) = i ≡ 0
+At-level t i (Pole true) = ⊥
+At-level t i (Plus e) = (z : State) × (mark t e ≡ Given true z i)
+At-level t i (Minus e) = (z : State) × (mark t e ≡ Given false z i)
 
 -- the same with the end after the l lanes of a path
-abbrev pub SitsEnd : ℕ → List Mark → ℕ → State → Type 0
-SitsEnd l t i (Pole false) = i ≡ 0
-SitsEnd l t i (Pole true) = i ≡ suc l
-SitsEnd l t i (Plus e) = (z : State) × (mark t e ≡ Mk true z i)
-SitsEnd l t i (Minus e) = (z : State) × (mark t e ≡ Mk false z i)
+abbrev pub At-level-or-end : ℕ → List Mark → ℕ → State → Type 0
+At-level-or-end l t i (Pole false) = i ≡ 0
+At-level-or-end l t i (Pole true) = i ≡ suc l
+At-level-or-end l t i (Plus e) = (z : State) × (mark t e ≡ Given true z i)
+At-level-or-end l t i (Minus e) = (z : State) × (mark t e ≡ Given false z i)
 
 -- the lanes with + and those with -
 abbrev pub isPlus : Mark → Bool
-isPlus None = false
-isPlus (Mk s x k) = s
+isPlus Blank = false
+isPlus (Given s x k) = s
 
 abbrev pub isMinus : Mark → Bool
-isMinus None = false
-isMinus (Mk s x k) = not s
+isMinus Blank = false
+isMinus (Given s x k) = not s

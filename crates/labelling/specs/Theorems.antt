@@ -2,19 +2,18 @@
 use mathlib.Core.Path.{_≡_}
 use mathlib.Core.Bool.{Bool, true, false, cond}
 use mathlib.Core.List.{List, [], _∷_}
-use Prim.Native.Nat.{ℕ, zero, suc, _+_, _*_, _≤_, _<_}
+use Prim.Native.Nat.{ℕ, _+_, _*_, _≤_, _<_}
 use lib.Dec.{eqb}
 use lib.ListN.{length, getD}
-use mathlib.Core.Option.{Option, none, some}
+use mathlib.Core.Option.{none, some}
 use Rattle.floor.specs.Floor.{stock, despatch}
 use Rattle.floor.specs.Meaning.{Meaning, Lawful}
 use Rattle.network.specs.States.{State, Pole, Minus}
 use Rattle.network.specs.Feasible.{Fits}
 use Rattle.network.specs.Cuts.{Balanced, FitsBy, total, capacity}
-use Rattle.labelling.specs.Rules.{ruled}
 use Rattle.labelling.specs.Table.{label}
 use Rattle.labelling.specs.Augmenting.{Augments, Before}
-use Rattle.labelling.specs.Steps.{Move, step, made, Follow, madeAll, outcome, labels}
+use Rattle.labelling.specs.Steps.{Move, step, made, Follow, outcome, labels}
 use Rattle.labelling.specs.Near.{near, unlabelled}
 use Rattle.labelling.specs.Cases.{Case, FullPlus, FullMinus, Opening, ruledBy, Listed}
 

@@ -1,19 +1,19 @@
 -- Floors worked through: on each the definitions, evaluated, give the moves that are written here.
 use mathlib.Core.Path.{_≡_}
-use mathlib.Core.Bool.{Bool, true, false, cond, not, _&&_}
+use mathlib.Core.Bool.{Bool, true, false, cond, _&&_}
 use mathlib.Core.List.{List, [], _∷_}
-use mathlib.Core.Option.{Option, none, some}
-use Prim.Native.Nat.{ℕ, zero, suc, _+_}
+use mathlib.Core.Option.{none}
+use Prim.Native.Nat.{ℕ}
 use lib.Dec.{eqb}
 use lib.ListN.{length, getD}
 use Rattle.std.specs.shelf.Lists.{All}
-use Rattle.polymatroid.specs.Kinds.{Groups, plain, graded, grouped, ceiling, closing}
+use Rattle.polymatroid.specs.Kinds.{plain, graded, grouped, ceiling, closing}
 use Rattle.floor.specs.Numbers.{top-cap}
 use Rattle.floor.specs.Floor.{Floor}
 use Rattle.floor.specs.Meaning.{Meaning, Lawful}
 use Rattle.network.specs.States.{State, Plus, Minus}
 use Rattle.network.specs.Cuts.{total}
-use Rattle.labelling.specs.Steps.{Move, step, made, Follow, madeAll}
+use Rattle.labelling.specs.Steps.{Move, step, Follow, madeAll}
 use Rattle.labelling.specs.Theorems.{Feasible}
 
 -- the number at place i of a list

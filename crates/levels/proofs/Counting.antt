@@ -8,7 +8,7 @@ use lib.Dec.{eqb, ltb}
 use Rattle.std.proofs.shelf.Ways.{tells}
 use Rattle.std.proofs.shelf.Tests.{cases-bool, eqb-true}
 use Rattle.std.proofs.shelf.Bits.{mul-add-lt, div-mul-add, mod-mul-add}
-use Rattle.levels.specs.Counting.{tally, Apart, Pigeonhole, Moves, Few-at-one-length, Few-in-all}
+use Rattle.levels.specs.Counting.{tally, Apart, Pigeonhole, Few-at-one-length, Few-in-all}
 
 -- f with the value a left out of the count
 closed : ℕ → (ℕ → ℕ) → ℕ → ℕ

@@ -1,11 +1,11 @@
 -- Levels rise when the relation changes by splicing, counted from the first state of the path or from the last,
 -- and where a level stays, the lowest numbers before it do not fall.
-use mathlib.Core.Path.{_≡_, refl, sym, ap, subst, subst⁻¹, _∙_}
+use mathlib.Core.Path.{_≡_, ap, subst, subst⁻¹}
 use mathlib.Core.Logic.{inl, inr, _⊎_}
-use Prim.Native.Nat.{ℕ, zero, suc, _+_, _-_, _*_, _≤_, _<_}
+use Prim.Native.Nat.{ℕ, zero, suc, _+_, _-_, _≤_, _<_}
 use native.Mathlib.Omega.{arith}
 use Rattle.levels.proofs.Walks.{join-walk, rest-walk, turned-walk}
-use Rattle.levels.specs.Levels.{Walk, Level, Straight, Along, Splices, Lowest, Levels-rise-in, Levels-rise-back-in, Numbers-rise-in}
+use Rattle.levels.specs.Levels.{Walk, Level, Straight, Along, Splices, Levels-rise-in, Levels-rise-back-in, Numbers-rise-in}
 
 pub levels-rise : (X : Type 0) → Levels-rise-in X
 levels-rise X R Q P N on splice zero y h = (0, omega arith, h)

@@ -1,6 +1,6 @@
 -- Walks: a step in front, one walk after another, the rest of a walk, and a walk turned round.
 use mathlib.Core.Path.{_≡_, refl, sym, ap, subst}
-use Prim.Native.Nat.{ℕ, zero, suc, _+_, _<_}
+use Prim.Native.Nat.{ℕ, zero, suc, _+_}
 use native.Mathlib.Omega.{arith}
 use Rattle.levels.specs.Levels.{Walk, Along}
 

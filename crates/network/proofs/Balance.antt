@@ -1,21 +1,19 @@
 -- A move keeps the balance, and adds its amount to the total.
-use mathlib.Core.Path.{_≡_, refl, sym, ap, ap₂, subst, subst⁻¹, _∙_}
-use mathlib.Core.Bool.{Bool, true, false, cond, not, _&&_}
-use mathlib.Core.Logic.{inl, inr, _⊎_}
-use Prim.Native.Nat.{ℕ, zero, suc, _+_, _-_, _*_, _^_, _≤_, _<_}
+use mathlib.Core.Path.{_≡_, refl, sym, ap, _∙_}
+use mathlib.Core.Bool.{Bool, true, false, cond, _&&_}
+use mathlib.Core.Logic.{inl, inr}
+use Prim.Native.Nat.{ℕ, zero, suc, _+_, _-_, _<_}
 use native.Mathlib.Omega.{arith}
 use lib.Dec.{eqb}
-use Rattle.std.proofs.shelf.Tests.{cases-lt, cases-bool, cases-eq, both-ways, eq-eqb, eqb-true, ne-eqb}
+use Rattle.std.proofs.shelf.Tests.{cases-eq, eq-eqb, ne-eqb}
 use Rattle.polymatroid.specs.Sets.{has}
-use Rattle.polymatroid.specs.Side.{load}
-use Rattle.floor.specs.Floor.{on, place, count, laneAt}
+use Rattle.floor.specs.Floor.{on, place}
 use Rattle.floor.specs.Meaning.{Meaning, Lawful}
-use Rattle.network.specs.Trays.{trays}
-use Rattle.network.specs.States.{State, Pole, Plus, Minus, at, amount, Ok, Path, walked}
+use Rattle.network.specs.States.{State, Pole, Plus, Minus, at, On-floor, augmented}
 use Rattle.network.specs.Sums.{sumTo, partAt, given, taken}
-use Rattle.network.specs.Cuts.{through, total, Balanced, setOf}
+use Rattle.network.specs.Cuts.{through, setOf}
 use Rattle.network.specs.Moves.{Moving, Move-balances}
-use Rattle.floor.proofs.Places.{place-below, laneAt-place}
+use Rattle.floor.proofs.Places.{place-below}
 use Rattle.network.proofs.Hits.{sum-same, sum-both, sum-shift, sum-none}
 use Rattle.network.proofs.Paths.{states-differ}
 use Rattle.network.proofs.Loads.{load-walked}
@@ -44,13 +42,13 @@ module _ (M : Meaning) (laws : Lawful M) (i n : ℕ) where
       by true o = ap (λ x. cond x n 0) (has-setOf M d i (λ e. true) (place (M .floor) d i e) (place-below (M .floor) d i e l o))
       by false o = refl
 
-  arrives : (x : State) → Ok M x → given M n true i (All true) x + taken M n false i (All false) x ≡ arr x
+  arrives : (x : State) → On-floor M x → given M n true i (All true) x + taken M n false i (All false) x ≡ arr x
   unfolding given taken arr
   arrives (Pole b) o = refl
   arrives (Plus e) o = omega (arith, part-all true e o)
   arrives (Minus e) o = omega (arith, part-all false e o)
 
-  departs : (x : State) → Ok M x → given M n false i (All false) x + taken M n true i (All true) x ≡ dep x
+  departs : (x : State) → On-floor M x → given M n false i (All false) x + taken M n true i (All true) x ≡ dep x
   unfolding given taken dep
   departs (Pole b) o = refl
   departs (Plus e) o = omega (arith, part-all false e o)
@@ -121,8 +119,8 @@ module _ (M : Meaning) (f : ℕ → ℕ) (P : ℕ → State) (N n : ℕ) (m : Mo
       omega arith
 
   -- what enters and what leaves, before and after
-  flows : through M (walked n P N f) (λ e. true) false i + through M f (λ e. true) true i
-      ≡ through M f (λ e. true) false i + through M (walked n P N f) (λ e. true) true i + c
+  flows : through M (augmented n P N f) (λ e. true) false i + through M f (λ e. true) true i
+      ≡ through M f (λ e. true) false i + through M (augmented n P N f) (λ e. true) true i + c
   unfolding All
   flows =
       let t = λ (e : ℕ). true in
@@ -134,7 +132,7 @@ module _ (M : Meaning) (f : ℕ → ℕ) (P : ℕ → State) (N n : ℕ) (m : Mo
       (λ r l. departs M (m .laws) i n (P r) (m .path .ok r (omega arith))) in
       let p2 = sum-both (λ r. given M n true i (setOf M true i t) (P r)) (λ r. taken M n false i (setOf M false i t) (P r)) N in
       let q2 = sum-both (λ r. given M n false i (setOf M false i t) (P r)) (λ r. taken M n true i (setOf M true i t) (P r)) N in
-      omega (arith, around, load-setOf M true i f t, load-setOf M false i f t, load-setOf M true i (walked n P N f) t, load-setOf M false i (walked n P N f) t)
+      omega (arith, around, load-setOf M true i f t, load-setOf M false i f t, load-setOf M true i (augmented n P N f) t, load-setOf M false i (augmented n P N f) t)
 
 -- nothing enters the stock
 stock-in : (M : Meaning) → Lawful M → (g : ℕ → ℕ) → through M g (λ e. true) true (M .floor .pole false) ≡ 0
@@ -150,5 +148,5 @@ move-balances M f P N n m bal = (
       let z : cond (eqb (M .floor .pole false) i) n 0 ≡ 0 = ap (λ x. cond x n 0) (ne-eqb (M .floor .pole false) i (λ q. a (sym q))) in
       omega (arith, flows M f P N n m i kin b, bal i kin a b)),
   (let s : cond (eqb (M .floor .pole false) (M .floor .pole false)) n 0 ≡ n = ap (λ x. cond x n 0) (eq-eqb (M .floor .pole false) (M .floor .pole false) refl) in
-      omega (arith, flows M f P N n m (M .floor .pole false) (m .laws .rules .pole-on false) (m .laws .rules .poles-differ), stock-in M (m .laws) f, stock-in M (m .laws) (walked n P N f))),
+      omega (arith, flows M f P N n m (M .floor .pole false) (m .laws .rules .pole-on false) (m .laws .rules .poles-differ), stock-in M (m .laws) f, stock-in M (m .laws) (augmented n P N f))),
 )

@@ -1,27 +1,26 @@
 -- A run has at most lanes × 2 × lanes × lanes stages.
-use mathlib.Core.Path.{_≡_, refl, sym, ap, ap₂, subst, subst⁻¹, _∙_}
-use mathlib.Core.Bool.{Bool, true, false}
+use mathlib.Core.Path.{_≡_, refl, sym, ap, ap₂, subst, _∙_}
+use mathlib.Core.Bool.{true, false}
 use mathlib.Core.Logic.{inl, inr, _⊎_}
 use Prim.Native.Nat.{ℕ, zero, suc, _+_, _-_, _*_, _/_, _%_, _≤_, _<_}
 use native.Mathlib.Omega.{arith}
-use Rattle.std.proofs.shelf.Tests.{cases-lt, cases-eq, both-ways, eq-eqb}
+use Rattle.std.proofs.shelf.Tests.{both-ways, eq-eqb}
 use Rattle.std.proofs.shelf.Bits.{mul-add-lt, div-mul-add, mod-mul-add}
 use Rattle.levels.specs.Counting.{Moves}
 use Rattle.levels.proofs.Counting.{pigeonhole-all, few-at-one-length, few-in-all}
 use Rattle.floor.specs.Meaning.{Meaning, Lawful}
-use Rattle.network.specs.States.{State, Pole, Plus, Minus, at, amount, Ok, Turn, Step, Path}
-use Rattle.network.specs.Moves.{Moving}
-use Rattle.network.specs.Stages.{num, Stage, Run, Few-share-a-length, Few-stages}
+use Rattle.network.specs.States.{State, Pole, Plus, Minus, at, amount, On-floor, Turn, Path}
+use Rattle.network.specs.Stages.{lane-number, Run, Few-share-a-length, Few-stages}
 use Rattle.network.proofs.Paths.{touches, touch-once}
 use Rattle.network.proofs.Stages.{pairs-differ}
 
 -- a lane state, at its place in a path
 lane-state : (M : Meaning) (f : ℕ → ℕ) (P : ℕ → State) (N : ℕ) → Path M f P N → (i : ℕ) → suc i < N
-    → (num (P (suc i)) < M .floor .lanes) × (touches (P (suc i)) (num (P (suc i))) ≡ true)
+    → (lane-number (P (suc i)) < M .floor .lanes) × (touches (P (suc i)) (lane-number (P (suc i))) ≡ true)
 unfolding touches
 lane-state M f P N path i l = by (P (suc i)) refl
   where
-    by : (x : State) → P (suc i) ≡ x → (num x < M .floor .lanes) × (touches x (num x) ≡ true)
+    by : (x : State) → P (suc i) ≡ x → (lane-number x < M .floor .lanes) × (touches x (lane-number x) ≡ true)
     by (Pole false) a = absurd (omega (arith, rw a at (path .some i (omega arith)), none (P i)))
       where
         none : (x : State) → amount M f x (Pole false) ≡ 0
@@ -34,12 +33,12 @@ lane-state M f P N path i l = by (P (suc i)) refl
         none (Pole b) = refl
         none (Plus e) = refl
         none (Minus e) = refl
-    by (Plus e) a = (subst (Ok M) a (path .ok (suc i) (omega arith)), eq-eqb e e refl)
-    by (Minus e) a = (subst (Ok M) a (path .ok (suc i) (omega arith)), eq-eqb e e refl)
+    by (Plus e) a = (subst (On-floor M) a (path .ok (suc i) (omega arith)), eq-eqb e e refl)
+    by (Minus e) a = (subst (On-floor M) a (path .ok (suc i) (omega arith)), eq-eqb e e refl)
 
 -- a path has at least one lane, and each lane at most once
 path-lanes : (M : Meaning) (f : ℕ → ℕ) (P : ℕ → State) (N : ℕ) → Path M f P N → (1 < N) × (N - 1 ≤ M .floor .lanes)
-path-lanes M f P N path = (many N path, pigeonhole-all (λ i. num (P (suc i))) (N - 1) (M .floor .lanes) below differ)
+path-lanes M f P N path = (many N path, pigeonhole-all (λ i. lane-number (P (suc i))) (N - 1) (M .floor .lanes) below differ)
   where
     many : (N : ℕ) → Path M f P N → 1 < N
     many zero path = let a = path .begin in let b = path .finish in let z : _≡_ {A = ℕ} 0 1 = cc in absurd (omega arith)
@@ -49,14 +48,14 @@ path-lanes M f P N path = (many N path, pigeonhole-all (λ i. num (P (suc i))) (
         absurd (omega arith)
     many (suc (suc N)) path = omega arith
 
-    below : (i : ℕ) → i < N - 1 → num (P (suc i)) < M .floor .lanes
+    below : (i : ℕ) → i < N - 1 → lane-number (P (suc i)) < M .floor .lanes
     below i l = lane-state M f P N path i (omega arith) .0
 
-    differ : (i j : ℕ) → i < j → j < N - 1 → num (P (suc i)) ≡ num (P (suc j)) → ⊥
+    differ : (i j : ℕ) → i < j → j < N - 1 → lane-number (P (suc i)) ≡ lane-number (P (suc j)) → ⊥
     differ i j l m e =
         let t = lane-state M f P N path i (omega arith) .1 in
         let u = lane-state M f P N path j (omega arith) .1 in
-        both-ways (touches (P (suc j)) (num (P (suc i)))) (touch-once M f P N path (suc i) (suc j) (num (P (suc i))) (omega arith) (omega arith) t)
+        both-ways (touches (P (suc j)) (lane-number (P (suc i)))) (touch-once M f P N path (suc i) (suc j) (lane-number (P (suc i))) (omega arith) (omega arith) t)
         (ap (touches (P (suc j))) e ∙ u)
 
 -- ---- the number of a pair: a sign, a lane and the next lane
@@ -72,12 +71,12 @@ sgn x (Plus g) = sign x
 sgn x (Minus g) = sign x
 
 lane : State → State → ℕ
-lane (Pole b) y = num y
+lane (Pole b) y = lane-number y
 lane (Plus e) y = e
 lane (Minus e) y = e
 
 then : State → State → ℕ
-then x (Pole b) = num x
+then x (Pole b) = lane-number x
 then x (Plus g) = g
 then x (Minus g) = g
 
@@ -105,8 +104,8 @@ record Inner (M : Meaning) (x y : State) : Type 0 where
   from : Lane M x
   to : Lane M y
   sign-is : sgn x y ≡ sign x
-  lane-is : lane x y ≡ num x
-  then-is : then x y ≡ num y
+  lane-is : lane x y ≡ lane-number x
+  then-is : then x y ≡ lane-number y
   two : lane x y ≡ then x y → ⊥
   low : lane x y < M .floor .lanes
   low-then : then x y < M .floor .lanes
@@ -115,7 +114,7 @@ record Inner (M : Meaning) (x y : State) : Type 0 where
 Kind : Meaning → State → State → Type 0
 Kind M x y = First M x y ⊎ (Last M x y ⊎ Inner M x y)
 
-kind : (M : Meaning) → Lawful M → (f : ℕ → ℕ) (x y : State) → Ok M x → Ok M y → at M true x ≡ at M false y → 0 < amount M f x y → (Turn x y → ⊥) → Kind M x y
+kind : (M : Meaning) → Lawful M → (f : ℕ → ℕ) (x y : State) → On-floor M x → On-floor M y → at M true x ≡ at M false y → 0 < amount M f x y → (Turn x y → ⊥) → Kind M x y
 unfolding Kind sgn lane then sign Lane
 kind M laws f (Pole b) (Pole c) a d q h t = absurd (omega arith)
 kind M laws f (Pole false) (Plus g) a d q h t = inl (record { from = refl; to = refl; plus = refl; one = refl; low = d })
@@ -153,7 +152,7 @@ kind M laws f (Minus e) (Minus g) a d q h t =
       low-sign = omega arith;
     }))
 
-same-from : (M : Meaning) (x x′ : State) → Lane M x → Lane M x′ → sign x ≡ sign x′ → num x ≡ num x′ → x ≡ x′
+same-from : (M : Meaning) (x x′ : State) → Lane M x → Lane M x′ → sign x ≡ sign x′ → lane-number x ≡ lane-number x′ → x ≡ x′
 unfolding Lane sign
 same-from M (Pole b) x′ a d s n = absurd a
 same-from M (Plus e) (Pole b) a d s n = absurd d
@@ -163,7 +162,7 @@ same-from M (Minus e) (Pole b) a d s n = absurd d
 same-from M (Minus e) (Plus g) a d s n = absurd (omega arith)
 same-from M (Minus e) (Minus g) a d s n = ap Minus n
 
-same-to : (M : Meaning) → Lawful M → (y y′ : State) → Lane M y → Lane M y′ → at M false y ≡ at M false y′ → num y ≡ num y′ → y ≡ y′
+same-to : (M : Meaning) → Lawful M → (y y′ : State) → Lane M y → Lane M y′ → at M false y ≡ at M false y′ → lane-number y ≡ lane-number y′ → y ≡ y′
 unfolding Lane
 same-to M laws (Pole b) y′ a d s n = absurd a
 same-to M laws (Plus e) (Pole b) a d s n = absurd d

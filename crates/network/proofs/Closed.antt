@@ -1,33 +1,24 @@
 -- A labelling that can label no more: which stations are near, which lanes are full, and what their tight sets hold.
-use mathlib.Core.Path.{_≡_, refl, sym, ap, ap₂, subst, subst⁻¹, _∙_}
-use mathlib.Core.Bool.{Bool, true, false, cond, not, _&&_, _||_}
-use mathlib.Core.Logic.{inl, inr, _⊎_}
-use Prim.Native.Nat.{ℕ, zero, suc, min, _+_, _*_, _^_, _≤_, _<_}
+use mathlib.Core.Path.{_≡_, sym, ap, _∙_}
+use mathlib.Core.Bool.{Bool, true, false, not, _||_}
+use mathlib.Core.Logic.{inl, inr}
+use Prim.Native.Nat.{ℕ, _+_, _<_}
 use native.Mathlib.Omega.{arith}
-use lib.Dec.{eqb}
-use Rattle.std.proofs.shelf.Tests.{cases-lt, cases-bool, cases-eq, both-ways, eq-eqb, eqb-true, or-left, or-right, or-cases, and-parts, and-from, not-from-true, not-from-false, not-true, not-false}
+use Rattle.std.proofs.shelf.Tests.{cases-lt, cases-bool, cases-eq, both-ways, or-left, or-right, or-cases}
 use Rattle.polymatroid.specs.Sets.{has}
-use Rattle.polymatroid.specs.Side.{load, In, Out, Full, Tight, room, roomBut, tightSet, Within, Caps}
-use Rattle.polymatroid.proofs.Side.{tightSet-in, tightSet-smallest, tightSet-carries}
-use Rattle.polymatroid.proofs.Room.{room-but, roomBut-full, full-tight, tight-full, member-from-room}
-use Rattle.polymatroid.proofs.Unions.{cap-mono, union-tight}
-use Rattle.floor.specs.Floor.{on, place, count, laneAt}
+use Rattle.polymatroid.specs.Side.{In, tightSet}
+use Rattle.floor.specs.Floor.{place, count}
 use Rattle.floor.specs.Meaning.{Meaning, Lawful}
 use Rattle.network.specs.Trays.{trays}
-use Rattle.network.specs.States.{State, Pole, Plus, Minus, at, roomAt, roomAll, roomLess, amount, Ok, Turn, Step}
+use Rattle.network.specs.States.{State, Pole, Plus, Minus, at, laneRoom, On-floor, Turn, Step}
 use Rattle.network.specs.Feasible.{Fits}
-use Rattle.network.specs.Sums.{sumTo}
-use Rattle.network.specs.Labelling.{Gives}
-use Rattle.network.specs.Cuts.{through, total, Balanced, FitsBy, setOf, crosses, capacity}
-use Rattle.network.specs.Finished.{Lab, LabLane, Opens, Closed, upper, Finished-best}
-use Rattle.floor.proofs.Places.{place-below, place-apart, laneAt-there, laneAt-place}
-use Rattle.network.proofs.Rooms.{tightAt, there, apart, room-is, less-is, all-is, tight-at, member-full, member-room, room-member, member-within, member-carries}
-use Rattle.network.proofs.Hits.{sum-same, sum-both, sum-none}
+use Rattle.network.specs.Labelling.{Residual}
+use Rattle.network.specs.Finished.{Labelled-state, Labelled-lane, Opens, Closed}
+use Rattle.network.proofs.Rooms.{there, tight-at, member-full, member-room, room-member, member-within, member-carries}
 use Rattle.network.proofs.Loads.{minus-carries}
-use Rattle.network.proofs.Visits.{Open, Free, byArrival, byDeparture, open-unless, free-unless, open-free}
+use Rattle.network.proofs.Visits.{Open, Free, open-unless, open-free}
 use Rattle.network.proofs.Labelling.{turn?}
 use Rattle.network.proofs.SpliceIn.{plus-departs}
-use Rattle.network.proofs.Cuts.{setOf-below, has-setOf, load-setOf, crossing, crossing-parts, cut-bounds}
 
 -- open and free, as the labelling has them
 opens-open : (M : Meaning) (f : ℕ → ℕ) (x : State) → Opens M f x → Open M f x
@@ -44,7 +35,7 @@ open-opens M f (Minus e) o = o
 
 module _ (M : Meaning) (laws : Lawful M) (f : ℕ → ℕ) (fits : Fits M f) (pl mi near : ℕ → Bool) (cl : Closed M f pl mi near) where
   -- a step from a labelled state leads to a labelled lane
-  pub step-labels : (x y : State) → Lab pl mi x → Step M f x y → LabLane pl mi y
+  pub step-labels : (x y : State) → Labelled-state pl mi x → Step M f x y → Labelled-lane pl mi y
   step-labels x y l s =
       elim (turn? x y) [
         | inl t ↦ turned x y l t
@@ -55,7 +46,7 @@ module _ (M : Meaning) (laws : Lawful M) (f : ℕ → ℕ) (fits : Fits M f) (pl
             ]
       ]
     where
-      turned : (x y : State) → Lab pl mi x → Turn x y → LabLane pl mi y
+      turned : (x y : State) → Labelled-state pl mi x → Turn x y → Labelled-lane pl mi y
       turned (Pole b) y l t = absurd t
       turned (Plus e) (Pole c) l t = absurd t
       turned (Plus e) (Plus g) l t = absurd t
@@ -65,7 +56,7 @@ module _ (M : Meaning) (laws : Lawful M) (f : ℕ → ℕ) (fits : Fits M f) (pl
       turned (Minus e) (Minus g) l t = absurd t
 
   -- from a near station each free departure has its lane labelled
-  near-labels : (y : State) → Ok M y → near (at M false y) ≡ true → Free M f y → LabLane pl mi y
+  near-labels : (y : State) → On-floor M y → near (at M false y) ≡ true → Free M f y → Labelled-lane pl mi y
   near-labels y oy n r =
       let a = cl .near-only (at M false y) n in
       step-labels (a .0) y (a .2) (open-free M laws f fits (a .0) y (a .1) oy (a .4) (opens-open M f (a .0) (a .3)) r)
@@ -79,7 +70,7 @@ module _ (M : Meaning) (laws : Lawful M) (f : ℕ → ℕ) (fits : Fits M f) (pl
   stock-near = cl .near-if (Pole false) tt tt tt
 
   -- a labelled state that arrives openly makes its station near
-  opened-near : (x : State) → Ok M x → Lab pl mi x → Open M f x → near (at M true x) ≡ true
+  opened-near : (x : State) → On-floor M x → Labelled-state pl mi x → Open M f x → near (at M true x) ≡ true
   opened-near x o l h = cl .near-if x o l (open-opens M f x h)
 
   minus-carried : (e : ℕ) → e < M .floor .lanes → mi e ≡ true → 0 < f e
@@ -114,9 +105,9 @@ module _ (M : Meaning) (laws : Lawful M) (f : ℕ → ℕ) (fits : Fits M f) (pl
       elim (cases-lt 0 (f e)) [ inl h ↦ absurd (both-ways (pl e || mi e) r (near-labels (Minus e) le n h)) | inr h ↦ omega arith ]
 
   -- an unlabelled lane out of a near station is full there, and its tight set is unlabelled
-  pub out-full : (e : ℕ) → e < M .floor .lanes → near (M .floor .end false e) ≡ true → (pl e || mi e) ≡ false → roomAll M f false e ≡ 0
+  pub out-full : (e : ℕ) → e < M .floor .lanes → near (M .floor .end false e) ≡ true → (pl e || mi e) ≡ false → laneRoom M f false e ≡ 0
   out-full e le n r =
-      elim (cases-lt 0 (roomAll M f false e))
+      elim (cases-lt 0 (laneRoom M f false e))
       [ inl h ↦ absurd (both-ways (pl e || mi e) r (near-labels (Plus e) le n h)) | inr h ↦ omega arith ]
 
   -- no - lane is in the tight set of an unlabelled lane out of the station that it leaves
@@ -143,13 +134,13 @@ module _ (M : Meaning) (laws : Lawful M) (f : ℕ → ℕ) (fits : Fits M f) (pl
         | inr y ↦ y
       ]
     where
-      full-e : roomAll M f false e ≡ 0
+      full-e : laneRoom M f false e ≡ 0
       full-e = out-full e le (ap near ke ∙ n) r
 
-      full-g : roomAll M f false g ≡ 0
+      full-g : laneRoom M f false g ≡ 0
       full-g = member-full M laws f fits false k kin e le ke full-e g kg i
 
-      by : (x : State) → Lab pl mi x → Gives M f x (Plus g) → ⊥
+      by : (x : State) → Labelled-state pl mi x → Residual M f x (Plus g) → ⊥
       by (Pole false) l c = omega (arith, c .some, full-g)
       by (Pole true) l c = omega (arith, c .some)
       by (Plus h) l c = omega (arith, c .some, full-g)
@@ -159,9 +150,9 @@ module _ (M : Meaning) (laws : Lawful M) (f : ℕ → ℕ) (fits : Fits M f) (pl
           no-minus k e h kin le (c .ok-from) ke kh r l (member-within M laws f fits false k kin e g le ke full-e i (place (M .floor) false k h) j)
 
   -- a + lane into a far station is full there, and the other lanes of its tight set are labelled
-  pub in-full : (e : ℕ) → e < M .floor .lanes → near (M .floor .end true e) ≡ false → pl e ≡ true → roomAll M f true e ≡ 0
+  pub in-full : (e : ℕ) → e < M .floor .lanes → near (M .floor .end true e) ≡ false → pl e ≡ true → laneRoom M f true e ≡ 0
   in-full e le n p =
-      elim (cases-lt 0 (roomAll M f true e))
+      elim (cases-lt 0 (laneRoom M f true e))
       [ inl h ↦ absurd (both-ways (near (M .floor .end true e)) n (opened-near (Plus e) le p h)) | inr h ↦ omega arith ]
 
   pub in-tight : (k e g : ℕ) → k < M .floor .stations → e < M .floor .lanes → g < M .floor .lanes → M .floor .end true e ≡ k → M .floor .end true g ≡ k → near k ≡ false → pl e ≡ true
@@ -188,7 +179,7 @@ module _ (M : Meaning) (laws : Lawful M) (f : ℕ → ℕ) (fits : Fits M f) (pl
             [ inl q ↦ let z : _≡_ {A = ℕ} 0 1 = cc in absurd (omega arith) | inr c ↦ by (c .0) (c .1) (c .2) ]
       ]
     where
-      by : (x : State) → Lab pl mi x → Gives M f x (Minus e)
+      by : (x : State) → Labelled-state pl mi x → Residual M f x (Minus e)
           → (h : ℕ) × (h < M .floor .lanes) × (M .floor .end true h ≡ k) × (pl h ≡ true)
           × In (tightSet (count (M .floor) true k) (M .cap true k) (trays M f true k) (place (M .floor) true k h)) (place (M .floor) true k e)
       by (Pole b) l c = absurd (omega (arith, c .some))

@@ -1,22 +1,21 @@
 -- No plan carries more than a cut lets through.
-use mathlib.Core.Path.{_≡_, refl, sym, ap, ap₂, subst, subst⁻¹, _∙_}
+use mathlib.Core.Path.{_≡_, refl, sym, ap, ap₂, _∙_}
 use mathlib.Core.Bool.{Bool, true, false, cond, not, _&&_}
-use mathlib.Core.Logic.{inl, inr, _⊎_}
+use mathlib.Core.Logic.{inl, inr}
 use Prim.Native.Nat.{ℕ, zero, suc, _+_, _-_, _*_, _^_, _≤_, _<_}
 use native.Mathlib.Omega.{arith}
 use native.Mathlib.Numerals.{add-one}
 use lib.Dec.{eqb}
-use Rattle.std.proofs.shelf.Ways.{tells}
-use Rattle.std.proofs.shelf.Tests.{cases-lt, cases-bool, cases-eq, both-ways, eq-eqb, eqb-true, ne-eqb}
-use Rattle.polymatroid.specs.Sets.{has, code}
+use Rattle.std.proofs.shelf.Tests.{cases-eq, both-ways, eq-eqb, ne-eqb}
+use Rattle.polymatroid.specs.Sets.{has}
 use Rattle.polymatroid.specs.Side.{load}
 use Rattle.polymatroid.proofs.Codes.{has-code, code-below}
 use Rattle.floor.specs.Floor.{on, place, count, laneAt}
 use Rattle.floor.specs.Meaning.{Meaning, Lawful}
 use Rattle.network.specs.Trays.{trays}
 use Rattle.network.specs.Sums.{sumTo}
-use Rattle.network.specs.Cuts.{through, total, Balanced, FitsBy, setOf, crosses, capacity, Cut-bounds}
-use Rattle.floor.proofs.Places.{place-rises, place-takes, laneAt-place}
+use Rattle.network.specs.Cuts.{through, total, Balanced, setOf, crosses, capacity, Cut-bounds}
+use Rattle.floor.proofs.Places.{place-takes, laneAt-place}
 use Rattle.network.proofs.Hits.{sum-same, sum-both, sum-none}
 
 pub sum-le : (g h : ℕ → ℕ) (n : ℕ) → ((i : ℕ) → i < n → g i ≤ h i) → sumTo g n ≤ sumTo h n

@@ -1,32 +1,21 @@
 -- Where the labels are closed, the plan carries what their cut lets through, and no plan carries more.
-use mathlib.Core.Path.{_≡_, refl, sym, ap, ap₂, subst, subst⁻¹, _∙_}
+use mathlib.Core.Path.{_≡_, refl, sym, ap, _∙_}
 use mathlib.Core.Bool.{Bool, true, false, cond, not, _&&_, _||_}
-use mathlib.Core.Logic.{inl, inr, _⊎_}
-use Prim.Native.Nat.{ℕ, zero, suc, min, _+_, _*_, _^_, _≤_, _<_}
+use Prim.Native.Nat.{ℕ, _*_, _<_}
 use native.Mathlib.Omega.{arith}
-use lib.Dec.{eqb}
-use Rattle.std.proofs.shelf.Tests.{cases-lt, cases-bool, cases-eq, both-ways, eq-eqb, eqb-true, or-left, or-right, or-cases, and-parts, and-from, not-from-true, not-from-false, not-true, not-false}
+use Rattle.std.proofs.shelf.Tests.{both-ways, eqb-true, and-parts, and-from, not-from-true, not-from-false, not-true, not-false}
 use Rattle.polymatroid.specs.Sets.{has}
-use Rattle.polymatroid.specs.Side.{load, In, Out, Full, Tight, room, roomBut, tightSet, Within, Caps}
-use Rattle.polymatroid.proofs.Side.{tightSet-in, tightSet-smallest, tightSet-carries}
-use Rattle.polymatroid.proofs.Room.{room-but, roomBut-full, full-tight, tight-full, member-from-room}
+use Rattle.polymatroid.specs.Side.{load, In, Tight, tightSet}
 use Rattle.polymatroid.proofs.Unions.{cap-mono, union-tight}
 use Rattle.floor.specs.Floor.{on, place, count, laneAt}
 use Rattle.floor.specs.Meaning.{Meaning, Lawful}
 use Rattle.network.specs.Trays.{trays}
-use Rattle.network.specs.States.{State, Pole, Plus, Minus, at, roomAt, roomAll, roomLess, amount, Ok, Turn, Step}
 use Rattle.network.specs.Feasible.{Fits}
-use Rattle.network.specs.Sums.{sumTo}
-use Rattle.network.specs.Labelling.{Gives}
-use Rattle.network.specs.Cuts.{through, total, Balanced, FitsBy, setOf, crosses, capacity}
-use Rattle.network.specs.Finished.{Lab, LabLane, Opens, Closed, upper, Finished-best}
-use Rattle.floor.proofs.Places.{place-below, place-apart, laneAt-there, laneAt-place}
-use Rattle.network.proofs.Rooms.{tightAt, there, apart, room-is, less-is, all-is, tight-at, member-full, member-room, room-member, member-within, member-carries}
-use Rattle.network.proofs.Hits.{sum-same, sum-both, sum-none}
-use Rattle.network.proofs.Loads.{minus-carries}
-use Rattle.network.proofs.Visits.{Open, Free, byArrival, byDeparture, open-unless, free-unless, open-free}
-use Rattle.network.proofs.Labelling.{turn?}
-use Rattle.network.proofs.SpliceIn.{plus-departs}
+use Rattle.network.specs.Cuts.{through, total, Balanced, setOf, crosses, capacity}
+use Rattle.network.specs.Finished.{Closed, upper, Finished-best}
+use Rattle.floor.proofs.Places.{laneAt-there}
+use Rattle.network.proofs.Rooms.{tight-at}
+use Rattle.network.proofs.Hits.{sum-same, sum-none}
 use Rattle.network.proofs.Cuts.{setOf-below, has-setOf, load-setOf, crossing, crossing-parts, cut-bounds}
 use Rattle.network.proofs.Closed.{despatch-far, stock-near, label-near, back-empty, unlabelled-empty, out-full, out-tight, in-full, in-tight, in-holder}
 

@@ -1,18 +1,18 @@
 -- The numbers of a stretch that pass a test, in order; and sums over a stretch.
-use mathlib.Core.Path.{_≡_, refl, sym, ap, _∙_}
+use mathlib.Core.Path.{_≡_, refl, ap, _∙_}
 use mathlib.Core.Bool.{Bool, true, false, cond}
-use mathlib.Core.List.{List, [], _∷_, map}
-use mathlib.Core.Logic.{inl, inr, _⊎_}
+use mathlib.Core.List.{List, [], _∷_}
+use mathlib.Core.Logic.{inl, inr}
 use Prim.Native.Nat.{ℕ, zero, suc, _+_, _≤_, _<_}
 use native.Mathlib.Omega.{arith}
 use lib.Dec.{ltb}
 use lib.ListN.{length, getD}
 use Rattle.std.specs.shelf.Lists.{All}
 use Rattle.std.proofs.shelf.Ways.{tells}
-use Rattle.std.proofs.shelf.Tests.{cases-lt, cases-bool, cases-eq, both-ways}
+use Rattle.std.proofs.shelf.Tests.{cases-eq, both-ways}
 use Rattle.std.proofs.shelf.Elements.{all-getD}
 use Rattle.polymatroid.specs.Finite.{first}
-use Rattle.polymatroid.proofs.Finite.{first-le, first-passes, first-before}
+use Rattle.polymatroid.proofs.Finite.{first-le, first-passes}
 use Rattle.network.specs.Sums.{sumTo}
 
 -- those of the c numbers from a on that pass t

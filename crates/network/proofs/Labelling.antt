@@ -1,18 +1,18 @@
 -- The path that a labelling finds is a shortest one, of lowest lane numbers.
-use mathlib.Core.Path.{_≡_, refl, sym, ap, subst, subst⁻¹, _∙_}
+use mathlib.Core.Path.{_≡_, refl, sym, ap, subst, subst⁻¹}
 use mathlib.Core.Bool.{Bool, true, false}
 use mathlib.Core.Logic.{inl, inr, _⊎_}
-use Prim.Native.Nat.{ℕ, zero, suc, _+_, _-_, _≤_, _<_}
+use Prim.Native.Nat.{ℕ, zero, suc, _-_, _≤_, _<_}
 use native.Mathlib.Omega.{arith}
-use Rattle.std.proofs.shelf.Tests.{cases-lt, cases-eq}
-use Rattle.levels.specs.Levels.{Walk, Level, Straight, Lowest}
-use Rattle.levels.specs.Search.{Steps, Turning, Labels}
+use Rattle.std.proofs.shelf.Tests.{cases-eq}
+use Rattle.levels.specs.Levels.{Walk, Level, Straight}
+use Rattle.levels.specs.Search.{Steps, Turning}
 use Rattle.levels.proofs.Search.{path-straight, path-lowest, path-in}
 use Rattle.floor.specs.Meaning.{Meaning, Lawful}
-use Rattle.network.specs.States.{State, Pole, Plus, Minus, at, amount, Ok, Turn, Step, Path}
+use Rattle.network.specs.States.{State, Pole, Plus, Minus, at, amount, On-floor, Turn, Step}
 use Rattle.network.specs.Feasible.{Fits}
-use Rattle.network.specs.Stages.{num}
-use Rattle.network.specs.Labelling.{holder, Gives, Turns, Labelled, Found, Search-finds}
+use Rattle.network.specs.Stages.{lane-number}
+use Rattle.network.specs.Labelling.{holder, Residual, Turns, Level-labels, Found, Search-finds}
 use Rattle.network.proofs.Skips.{skip-in, skip-out}
 
 -- states are told apart
@@ -59,7 +59,7 @@ turn? (Minus e) (Minus g) = inr (λ t. t)
 
 module _ (M : Meaning) (laws : Lawful M) (f : ℕ → ℕ) (fits : Fits M f) where
   -- a step gives a label or turns, and the other way round
-  to-steps : (x y : State) → Step M f x y → Steps holder num (Gives M f) (Turns M) (Pole false) x y
+  to-steps : (x y : State) → Step M f x y → Steps holder lane-number (Residual M f) (Turns M) (Pole false) x y
   to-steps x y s =
       elim (turn? x y) [
         | inl t ↦ inr (record { ok-from = s .ok-from; ok-to = s .ok-to; meet = s .meet; turn = t })
@@ -70,14 +70,14 @@ module _ (M : Meaning) (laws : Lawful M) (f : ℕ → ℕ) (fits : Fits M f) whe
             ]
       ]
 
-  from-steps : (x y : State) → Steps holder num (Gives M f) (Turns M) (Pole false) x y → Step M f x y
+  from-steps : (x y : State) → Steps holder lane-number (Residual M f) (Turns M) (Pole false) x y → Step M f x y
   from-steps x y s =
       elim s [
         | inl r ↦ record { ok-from = r .ok-from; ok-to = r .ok-to; meet = r .meet; some = inl (r .some) }
         | inr r ↦ record { ok-from = r .ok-from; ok-to = r .ok-to; meet = r .meet; some = inr (r .turn) }
       ]
 
-  pub skip : (d x y z : State) → Gives M f d x → holder x ≡ holder y → (x ≡ y → ⊥) → Gives M f y z → Step M f d z
+  pub skip : (d x y z : State) → Residual M f d x → holder x ≡ holder y → (x ≡ y → ⊥) → Residual M f y z → Step M f d z
   skip d (Pole false) y z r e ne s = absurd (ne (alone y e))
   skip d (Pole true) (Pole false) z r e ne s = absurd (omega arith)
   skip d (Pole true) (Pole true) z r e ne s = absurd (ne refl)
@@ -98,7 +98,7 @@ module _ (M : Meaning) (laws : Lawful M) (f : ℕ → ℕ) (fits : Fits M f) whe
       (subst (λ x. 0 < amount M f (Plus x) z) q (s .some))
   skip d (Minus a) (Minus b) z r e ne s = absurd (ne (ap Minus (omega arith)))
 
-  turning : Turning holder num (Gives M f) (Turns M) (Pole false)
+  turning : Turning holder lane-number (Residual M f) (Turns M) (Pole false)
   turning = record {
     same = λ x y t. turn-holder x y (t .turn);
     tell = tell;
@@ -106,40 +106,40 @@ module _ (M : Meaning) (laws : Lawful M) (f : ℕ → ℕ) (fits : Fits M f) whe
     skip = λ d x y z r e ne s. to-steps d z (skip d x y z r e ne s);
   }
 
-  walk-to : (a : State) (n : ℕ) (y : State) → Walk (Step M f) a n y → Walk (Steps holder num (Gives M f) (Turns M) (Pole false)) a n y
+  walk-to : (a : State) (n : ℕ) (y : State) → Walk (Step M f) a n y → Walk (Steps holder lane-number (Residual M f) (Turns M) (Pole false)) a n y
   walk-to a zero y w = w
   walk-to a (suc n) y w = (w .0, walk-to a n (w .0) (w .1), to-steps (w .0) y (w .2))
 
-  walk-from : (a : State) (n : ℕ) (y : State) → Walk (Steps holder num (Gives M f) (Turns M) (Pole false)) a n y → Walk (Step M f) a n y
+  walk-from : (a : State) (n : ℕ) (y : State) → Walk (Steps holder lane-number (Residual M f) (Turns M) (Pole false)) a n y → Walk (Step M f) a n y
   walk-from a zero y w = w
   walk-from a (suc n) y w = (w .0, walk-from a n (w .0) (w .1), from-steps (w .0) y (w .2))
 
-  level-from : (a : State) (n : ℕ) (y : State) → Level (Steps holder num (Gives M f) (Turns M) (Pole false)) a n y → Level (Step M f) a n y
+  level-from : (a : State) (n : ℕ) (y : State) → Level (Steps holder lane-number (Residual M f) (Turns M) (Pole false)) a n y → Level (Step M f) a n y
   level-from a n y l = record { walk = walk-from a n y (l .walk); shortest = λ m w. l .shortest m (walk-to a m y w) }
 
-  level-to : (a : State) (n : ℕ) (y : State) → Level (Step M f) a n y → Level (Steps holder num (Gives M f) (Turns M) (Pole false)) a n y
+  level-to : (a : State) (n : ℕ) (y : State) → Level (Step M f) a n y → Level (Steps holder lane-number (Residual M f) (Turns M) (Pole false)) a n y
   level-to a n y l = record { walk = walk-to a n y (l .walk); shortest = λ m w. l .shortest m (walk-from a m y w) }
 
   -- the path read back from the end's label
-  module _ (N : ℕ) (In : ℕ → State → Type 0) (name : State → State) (labels : Labelled M f N In name)
+  module _ (N : ℕ) (In : ℕ → State → Type 0) (name : State → State) (labels : Level-labels M f N In name)
       (P : ℕ → State) (some : 0 < N) (end : P N ≡ Pole true) (there : In N (P N)) (names : (i : ℕ) → i < N → P i ≡ name (P (suc i))) where
     levels : Straight (Step M f) P N
     levels i l =
-        level-from (P 0) i (P i) (path-straight holder num (Gives M f) (Turns M) (Pole false) turning N In name labels P there names i l)
+        level-from (P 0) i (P i) (path-straight holder lane-number (Residual M f) (Turns M) (Pole false) turning N In name labels P there names i l)
 
-    gives : (i : ℕ) → i < N → Gives M f (P i) (P (suc i))
+    gives : (i : ℕ) → i < N → Residual M f (P i) (P (suc i))
     gives i l =
-        subst⁻¹ (λ x. Gives M f x (P (suc i))) (names i l)
-        (labels .by i (P (suc i)) (path-in holder num (Gives M f) (Turns M) (Pole false) turning N In name labels P there names (suc i) l))
+        subst⁻¹ (λ x. Residual M f x (P (suc i))) (names i l)
+        (labels .by i (P (suc i)) (path-in holder lane-number (Residual M f) (Turns M) (Pole false) turning N In name labels P there names (suc i) l))
 
-    ok : (i : ℕ) → i ≤ N → Ok M (P i)
+    ok : (i : ℕ) → i ≤ N → On-floor M (P i)
     ok zero l = gives 0 some .ok-from
     ok (suc i) l = gives i l .ok-to
 
     pub found : Found M f P N
     found = record {
       path = record {
-        begin = sym (labels .top (P 0) (path-in holder num (Gives M f) (Turns M) (Pole false) turning N In name labels P there names 0 (omega arith)));
+        begin = sym (labels .top (P 0) (path-in holder lane-number (Residual M f) (Turns M) (Pole false) turning N In name labels P there names 0 (omega arith)));
         finish = end;
         ok = ok;
         meet = λ i l. gives i l .meet;
@@ -150,7 +150,7 @@ module _ (M : Meaning) (laws : Lawful M) (f : ℕ → ℕ) (fits : Fits M f) whe
       };
       straight = levels;
       lowest = λ i x l lx s.
-          path-lowest holder num (Gives M f) (Turns M) (Pole false) turning N In name labels P there names i x l (level-to (P 0) i x lx) (to-steps x (P (suc i)) s);
+          path-lowest holder lane-number (Residual M f) (Turns M) (Pole false) turning N In name labels P there names i x l (level-to (P 0) i x lx) (to-steps x (P (suc i)) s);
     }
 
 pub search-finds : Search-finds

@@ -1,21 +1,20 @@
 -- What a set of a station's lanes carries after a move.
-use mathlib.Core.Path.{_≡_, refl, sym, ap, subst, _∙_}
-use mathlib.Core.Bool.{Bool, true, false, cond, not, _&&_}
-use mathlib.Core.Logic.{inl, inr, _⊎_}
-use Prim.Native.Nat.{ℕ, zero, suc, min, _+_, _-_, _≤_, _<_}
+use mathlib.Core.Path.{_≡_, refl, sym, ap, _∙_}
+use mathlib.Core.Bool.{Bool, true, false, cond}
+use mathlib.Core.Logic.{inl, inr}
+use Prim.Native.Nat.{ℕ, zero, suc, _+_, _-_, _≤_, _<_}
 use native.Mathlib.Omega.{arith}
 use lib.Dec.{eqb}
-use Rattle.std.proofs.shelf.Ways.{tells}
-use Rattle.std.proofs.shelf.Tests.{cases-lt, cases-bool, cases-eq, both-ways, eqb-true, eqb-false, ne-eqb, eq-eqb}
+use Rattle.std.proofs.shelf.Tests.{cases-bool, cases-eq, both-ways, ne-eqb, eq-eqb}
 use Rattle.polymatroid.specs.Sets.{has}
 use Rattle.polymatroid.specs.Side.{load, plus, minus}
 use Rattle.polymatroid.proofs.Side.{load-same, load-plus, load-minus}
 use Rattle.floor.specs.Floor.{on, place, count, laneAt}
 use Rattle.floor.specs.Meaning.{Meaning}
 use Rattle.network.specs.Trays.{trays}
-use Rattle.network.specs.States.{State, Pole, Plus, Minus, amount, Ok, Path, applied, walked}
+use Rattle.network.specs.States.{State, Pole, Plus, Minus, amount, Path, applied, augmented}
 use Rattle.network.specs.Sums.{sumTo, partAt, given, taken}
-use Rattle.floor.proofs.Places.{place-below, place-apart, laneAt-there, laneAt-place}
+use Rattle.floor.proofs.Places.{place-below, laneAt-there, laneAt-place}
 use Rattle.network.proofs.Paths.{touches, walked-fresh}
 
 module _ (M : Meaning) (d : Bool) (i : ℕ) where
@@ -81,14 +80,14 @@ module _ (M : Meaning) (f : ℕ → ℕ) (P : ℕ → State) (N n : ℕ) (path :
   enough (suc j) e l q = omega (arith, minus-carries M f (P j) e, rw q at (least j l))
 
   pub load-walked : (d : Bool) (i X j : ℕ) → j ≤ N
-      → load (trays M (walked n P j f) d i) (count (M .floor) d i) X + sumTo (λ r. taken M n d i X (P r)) j
+      → load (trays M (augmented n P j f) d i) (count (M .floor) d i) X + sumTo (λ r. taken M n d i X (P r)) j
       ≡ load (trays M f d i) (count (M .floor) d i) X + sumTo (λ r. given M n d i X (P r)) j
-  unfolding walked sumTo given taken touches
+  unfolding augmented sumTo given taken touches
   load-walked d i X zero l = refl
   load-walked d i X (suc j) l = ways (P j) refl (load-walked d i X j (omega arith))
     where
       G : ℕ → ℕ
-      G = walked n P j f
+      G = augmented n P j f
 
       T : ℕ
       T = sumTo (λ r. taken M n d i X (P r)) j

@@ -1,17 +1,16 @@
 -- What a path without detour is like: its lanes differ, and a move changes the trays of each once.
 use mathlib.Core.Path.{_≡_, refl, sym, ap, subst, _∙_}
-use mathlib.Core.Bool.{Bool, true, false, cond, not}
-use mathlib.Core.Logic.{inl, inr, _⊎_}
-use Prim.Native.Nat.{ℕ, zero, suc, min, _+_, _-_, _≤_, _<_}
+use mathlib.Core.Bool.{Bool, true, false, cond}
+use mathlib.Core.Logic.{inl, inr}
+use Prim.Native.Nat.{ℕ, zero, suc, _+_, _-_, _≤_, _<_}
 use native.Mathlib.Omega.{arith}
 use lib.Dec.{eqb}
 use Rattle.std.proofs.shelf.Ways.{tells}
-use Rattle.std.proofs.shelf.Tests.{cases-lt, cases-bool, cases-eq, both-ways, eqb-true, ne-eqb}
-use Rattle.polymatroid.specs.Side.{roomBut, plus, minus}
-use Rattle.floor.specs.Floor.{on, place, count, laneAt}
+use Rattle.std.proofs.shelf.Tests.{cases-bool, cases-eq, both-ways, eqb-true, ne-eqb}
+use Rattle.polymatroid.specs.Side.{plus, minus}
 use Rattle.floor.specs.Meaning.{Meaning}
 use Rattle.network.specs.Trays.{trays}
-use Rattle.network.specs.States.{State, Pole, Plus, Minus, at, amount, Ok, Turn, Step, Path, applied, walked}
+use Rattle.network.specs.States.{State, Pole, Plus, Minus, at, amount, Turn, Step, Path, applied, augmented}
 
 -- nothing steps to the start, and the end steps to nothing
 pub into-start : (M : Meaning) (f : ℕ → ℕ) (x : State) → amount M f x (Pole false) ≡ 0
@@ -36,11 +35,11 @@ applied-other n (Pole b) f e t = refl
 applied-other n (Plus h) f e t = grind (arith, tells)
 applied-other n (Minus h) f e t = grind (arith, tells)
 
-pub walked-other : (n : ℕ) (P : ℕ → State) (f : ℕ → ℕ) (j e : ℕ) → ((i : ℕ) → i < j → touches (P i) e ≡ false) → walked n P j f e ≡ f e
-unfolding walked
+pub walked-other : (n : ℕ) (P : ℕ → State) (f : ℕ → ℕ) (j e : ℕ) → ((i : ℕ) → i < j → touches (P i) e ≡ false) → augmented n P j f e ≡ f e
+unfolding augmented
 walked-other n P f zero e t = refl
 walked-other n P f (suc j) e t =
-    applied-other n (P j) (walked n P j f) e (t j (omega arith)) ∙ walked-other n P f j e (λ i l. t i (omega arith))
+    applied-other n (P j) (augmented n P j f) e (t j (omega arith)) ∙ walked-other n P f j e (λ i l. t i (omega arith))
 
 pub applied-same : (n : ℕ) (x : State) (g h : ℕ → ℕ) (e : ℕ) → g e ≡ h e → applied n x g e ≡ applied n x h e
 unfolding plus minus
@@ -93,22 +92,22 @@ module _ (M : Meaning) (f : ℕ → ℕ) (P : ℕ → State) (N : ℕ) (path : P
       ways (Minus h) (Minus g) p q t = ne-eqb e g (λ r. states-differ i j l m (p ∙ ap Minus (same h g t r) ∙ sym q))
 
   -- a move finds each lane of the path with the trays that it had
-  pub walked-fresh : (n j e : ℕ) → j ≤ N → touches (P j) e ≡ true → walked n P j f e ≡ f e
+  pub walked-fresh : (n j e : ℕ) → j ≤ N → touches (P j) e ≡ true → augmented n P j f e ≡ f e
   walked-fresh n j e l t =
       walked-other n P f j e
       (λ i m. elim (cases-bool (touches (P i) e))
       [ inl y ↦ absurd (both-ways (touches (P j) e) (touch-once i j e m l y) t) | inr y ↦ y ])
 
   -- and changes it once
-  pub walked-touched : (n j Mir e : ℕ) → j < Mir → Mir ≤ N → touches (P j) e ≡ true → walked n P Mir f e ≡ applied n (P j) f e
-  unfolding walked
+  pub walked-touched : (n j Mir e : ℕ) → j < Mir → Mir ≤ N → touches (P j) e ≡ true → augmented n P Mir f e ≡ applied n (P j) f e
+  unfolding augmented
   walked-touched n j zero e l m t = absurd (omega arith)
   walked-touched n j (suc Mir) e l m t =
       elim (cases-eq j Mir) [
         | inl q ↦
-            subst (λ Mir. applied n (P Mir) (walked n P Mir f) e ≡ applied n (P j) f e) q
-            (applied-same n (P j) (walked n P j f) f e (walked-fresh n j e (omega arith) t))
+            subst (λ Mir. applied n (P Mir) (augmented n P Mir f) e ≡ applied n (P j) f e) q
+            (applied-same n (P j) (augmented n P j f) f e (walked-fresh n j e (omega arith) t))
         | inr q ↦
-            applied-other n (P Mir) (walked n P Mir f) e (touch-once j Mir e (omega arith) (omega arith) t)
+            applied-other n (P Mir) (augmented n P Mir f) e (touch-once j Mir e (omega arith) (omega arith) t)
             ∙ walked-touched n j Mir e (omega arith) (omega arith) t
       ]

@@ -1,36 +1,23 @@
 -- What the pairs of a path give to a set of the lanes that enter a station and take from it: the exchanges and the open pair do.
-use mathlib.Core.Path.{_≡_, refl, sym, ap, ap₂, subst, subst⁻¹, _∙_}
+use mathlib.Core.Path.{_≡_, refl, ap}
 use mathlib.Core.Bool.{Bool, true, false, cond, not, _&&_}
-use mathlib.Core.List.{List, [], _∷_, map}
-use mathlib.Core.Logic.{inl, inr, _⊎_}
-use Prim.Native.Nat.{ℕ, zero, suc, min, _+_, _-_, _^_, _≤_, _<_}
+use mathlib.Core.List.{List, _∷_, map}
+use Prim.Native.Nat.{ℕ, zero, suc, _+_, _-_, _^_, _<_}
 use native.Mathlib.Omega.{arith}
 use lib.Dec.{eqb, ltb}
-use Rattle.std.proofs.shelf.Tests.{cases-lt, cases-bool, cases-eq, both-ways, lt-ltb, eq-eqb}
-use Rattle.std.proofs.shelf.Lists.{length-map, getD-map}
-use lib.ListN.{length, getD}
 use Rattle.polymatroid.specs.Sets.{has}
 use Rattle.polymatroid.specs.Finite.{first}
-use Rattle.polymatroid.specs.Side.{load, Within, roomBut}
-use Rattle.polymatroid.specs.Exchange.{Swap, after, ups, downs, Move}
+use Rattle.polymatroid.specs.Exchange.{Exchange, ups, downs}
 use Rattle.polymatroid.proofs.Codes.{has-past}
-use Rattle.polymatroid.proofs.Exchange.{moves-keep}
-use Rattle.polymatroid.proofs.Critical.{load-move, critical-dies, room-splices}
-use Rattle.polymatroid.proofs.Room.{same-within, same-room}
-use Rattle.polymatroid.specs.Critical.{nth, Pairs}
-use Rattle.polymatroid.proofs.Finite.{first-passes, first-before}
-use Rattle.floor.specs.Floor.{on, place, count, laneAt}
+use Rattle.floor.specs.Floor.{place, count}
 use Rattle.floor.specs.Meaning.{Meaning, Lawful}
 use Rattle.network.specs.Trays.{trays}
-use Rattle.network.specs.States.{State, Pole, Plus, Minus, at, amount, Ok, Turn, Step, Path, walked}
+use Rattle.network.specs.States.{State, Pole, Plus, Minus, at, Path}
 use Rattle.network.specs.Feasible.{Fits}
-use Rattle.network.specs.Sums.{sumTo, partAt, given, taken}
-use Rattle.floor.proofs.Places.{place-below}
-use Rattle.network.proofs.Hits.{hits, hit-index, hit-at, hits-rise, sum-same, sum-both, sum-shift, sum-front, sum-first}
-use Rattle.network.proofs.Loads.{load-walked}
+use Rattle.network.specs.Sums.{sumTo, given, taken}
+use Rattle.network.proofs.Hits.{hits, sum-same, sum-both, sum-shift, sum-front, sum-first}
 use Rattle.network.proofs.Visits.{byArrival, byDeparture}
-use Rattle.network.proofs.Arrivals.{posPlus, posMinus, isH, isU, swapAt, theU, endUp, endDown, swaps, one-u}
-use Rattle.network.proofs.Exchanges.{move}
+use Rattle.network.proofs.Arrivals.{posPlus, posMinus, isFullPair, isOpenPair, exchangeAt, theOpenPair, openUp, openDown, exchangesAt, one-open-pair}
 
 -- what one of two pairs gives
 share : (b a c h : Bool) (n : ℕ) → c ≡ false → cond (b && h) n 0 ≡ cond (b && a) (cond h n 0) 0 + cond (b && (not a && not c)) (cond h n 0) 0
@@ -43,7 +30,7 @@ share false a c h n e = omega arith
 pub none : (s t : Bool) (n : ℕ) (h : Bool) → h ≡ false → 0 ≡ cond s (cond h n 0) 0 + cond t (cond h n 0) 0
 none s t n h e = grind arith
 
-module _ (n X : ℕ) (sw : ℕ → Swap) (t : ℕ → Bool) where
+module _ (n X : ℕ) (sw : ℕ → Exchange) (t : ℕ → Bool) where
   ups-cond : (b : Bool) (a : ℕ) (H : List ℕ) → ups n (map sw (cond b (a ∷ H) H)) X ≡ cond b (cond (has X (sw a .up)) n 0) 0 + ups n (map sw H) X
   unfolding ups
   ups-cond true a H = refl
@@ -86,8 +73,8 @@ module _ (M : Meaning) (f : ℕ → ℕ) (P : ℕ → State) (N : ℕ) (path : P
 
   -- each arrival here that puts trays into X is one of an exchange or of the open pair
   given-at : (q : ℕ) → given M n true k X (P q)
-      ≡ cond (isH M f P k q) (cond (has X (posPlus M k (P q))) n 0) 0 + cond (isU M f P k q) (cond (has X (posPlus M k (P q))) n 0) 0
-  unfolding isH isU given posPlus
+      ≡ cond (isFullPair M f P k q) (cond (has X (posPlus M k (P q))) n 0) 0 + cond (isOpenPair M f P k q) (cond (has X (posPlus M k (P q))) n 0) 0
+  unfolding isFullPair isOpenPair given posPlus
   given-at q = by (P q) (P (suc q))
     where
       by : (x y : State) → given M n true k X x
@@ -102,8 +89,8 @@ module _ (M : Meaning) (f : ℕ → ℕ) (P : ℕ → State) (N : ℕ) (path : P
           (eqb (at M true (Minus e)) k && (not (byArrival M f (Minus e) y) && not (byDeparture M f (Minus e) y))) n (has X (count (M .floor) true k)) off
 
   taken-at : (q : ℕ) → q < N → taken M n true k X (P (suc q))
-      ≡ cond (isH M f P k q) (cond (has X (posMinus M k (P (suc q)))) n 0) 0 + cond (isU M f P k q) (cond (has X (posMinus M k (P (suc q)))) n 0) 0
-  unfolding isH isU taken posMinus
+      ≡ cond (isFullPair M f P k q) (cond (has X (posMinus M k (P (suc q)))) n 0) 0 + cond (isOpenPair M f P k q) (cond (has X (posMinus M k (P (suc q)))) n 0) 0
+  unfolding isFullPair isOpenPair taken posMinus
   taken-at q l = by (P q) (P (suc q)) (path .meet q l)
     where
       by : (x y : State) → at M true x ≡ at M false y → taken M n true k X y
@@ -124,41 +111,41 @@ module _ (M : Meaning) (f : ℕ → ℕ) (P : ℕ → State) (N : ℕ) (path : P
           stays (Minus e) = refl
 
   module _ (laws : Lawful M) (fits : Fits M f) (on-floor : k < M .floor .stations) where
-    pub given-sum : sumTo (λ r. given M n true k X (P r)) N ≡ cond (has X (endUp M f P k N)) n 0 + ups n (swaps M f P k 0 N) X
-    unfolding swaps swapAt endUp theU
+    pub given-sum : sumTo (λ r. given M n true k X (P r)) N ≡ cond (has X (openUp M f P k N)) n 0 + ups n (exchangesAt M f P k 0 N) X
+    unfolding exchangesAt exchangeAt openUp theOpenPair
     given-sum =
-        let hH : ℕ → ℕ = λ q. cond (isH M f P k q) (cond (has X (posPlus M k (P q))) n 0) 0 in
-        let hU : ℕ → ℕ = λ q. cond (isU M f P k q) (cond (has X (posPlus M k (P q))) n 0) 0 in
+        let hH : ℕ → ℕ = λ q. cond (isFullPair M f P k q) (cond (has X (posPlus M k (P q))) n 0) 0 in
+        let hU : ℕ → ℕ = λ q. cond (isOpenPair M f P k q) (cond (has X (posPlus M k (P q))) n 0) 0 in
         let a = sum-same (λ r. given M n true k X (P r)) (λ r. hH r + hU r) N (λ r l. given-at r) in
         let b = sum-both hH hU N in
-        let c = ups-sum n X (swapAt M f P k) (isH M f P k) 0 N in
+        let c = ups-sum n X (exchangeAt M f P k) (isFullPair M f P k) 0 N in
         let d = sum-same (λ r. hH (0 + r)) hH N (λ r l. ap hH (omega arith)) in
-        let e = sum-first (isU M f P k) (λ q. cond (has X (posPlus M k (P q))) n 0) N (one-u M laws f fits P N path k on-floor) in
-        let g : cond (ltb (first (isU M f P k) N) N) (cond (has X (posPlus M k (P (first (isU M f P k) N)))) n 0) 0
-        ≡ cond (has X (cond (ltb (first (isU M f P k) N) N) (posPlus M k (P (first (isU M f P k) N))) (count (M .floor) true k))) n 0 =
-        pushed (ltb (first (isU M f P k) N) N) (posPlus M k (P (first (isU M f P k) N))) in
+        let e = sum-first (isOpenPair M f P k) (λ q. cond (has X (posPlus M k (P q))) n 0) N (one-open-pair M laws f fits P N path k on-floor) in
+        let g : cond (ltb (first (isOpenPair M f P k) N) N) (cond (has X (posPlus M k (P (first (isOpenPair M f P k) N)))) n 0) 0
+        ≡ cond (has X (cond (ltb (first (isOpenPair M f P k) N) N) (posPlus M k (P (first (isOpenPair M f P k) N))) (count (M .floor) true k))) n 0 =
+        pushed (ltb (first (isOpenPair M f P k) N) N) (posPlus M k (P (first (isOpenPair M f P k) N))) in
         omega arith
       where
         pushed : (b : Bool) (p : ℕ) → cond b (cond (has X p) n 0) 0 ≡ cond (has X (cond b p (count (M .floor) true k))) n 0
         pushed true p = refl
         pushed false p = let o = off in grind arith
 
-    pub taken-sum : sumTo (λ r. taken M n true k X (P r)) N ≡ cond (has X (endDown M f P k N)) n 0 + downs n (swaps M f P k 0 N) X
-    unfolding swaps swapAt endDown theU taken
+    pub taken-sum : sumTo (λ r. taken M n true k X (P r)) N ≡ cond (has X (openDown M f P k N)) n 0 + downs n (exchangesAt M f P k 0 N) X
+    unfolding exchangesAt exchangeAt openDown theOpenPair taken
     taken-sum =
-        let hH : ℕ → ℕ = λ q. cond (isH M f P k q) (cond (has X (posMinus M k (P (suc q)))) n 0) 0 in
-        let hU : ℕ → ℕ = λ q. cond (isU M f P k q) (cond (has X (posMinus M k (P (suc q)))) n 0) 0 in
+        let hH : ℕ → ℕ = λ q. cond (isFullPair M f P k q) (cond (has X (posMinus M k (P (suc q)))) n 0) 0 in
+        let hU : ℕ → ℕ = λ q. cond (isOpenPair M f P k q) (cond (has X (posMinus M k (P (suc q)))) n 0) 0 in
         let z = sum-shift (λ r. taken M n true k X (P r)) N in
         let z0 : taken M n true k X (P 0) ≡ 0 = rw (path .begin) (pole false) in
         let zN : taken M n true k X (P N) ≡ 0 = rw (path .finish) (pole true) in
         let a = sum-same (λ r. taken M n true k X (P (suc r))) (λ r. hH r + hU r) N (λ r l. taken-at r l) in
         let b = sum-both hH hU N in
-        let c = downs-sum n X (swapAt M f P k) (isH M f P k) 0 N in
+        let c = downs-sum n X (exchangeAt M f P k) (isFullPair M f P k) 0 N in
         let d = sum-same (λ r. hH (0 + r)) hH N (λ r l. ap hH (omega arith)) in
-        let e = sum-first (isU M f P k) (λ q. cond (has X (posMinus M k (P (suc q)))) n 0) N (one-u M laws f fits P N path k on-floor) in
-        let g : cond (ltb (first (isU M f P k) N) N) (cond (has X (posMinus M k (P (suc (first (isU M f P k) N))))) n 0) 0
-        ≡ cond (has X (cond (ltb (first (isU M f P k) N) N) (posMinus M k (P (suc (first (isU M f P k) N)))) (count (M .floor) true k))) n 0 =
-        pushed (ltb (first (isU M f P k) N) N) (posMinus M k (P (suc (first (isU M f P k) N)))) in
+        let e = sum-first (isOpenPair M f P k) (λ q. cond (has X (posMinus M k (P (suc q)))) n 0) N (one-open-pair M laws f fits P N path k on-floor) in
+        let g : cond (ltb (first (isOpenPair M f P k) N) N) (cond (has X (posMinus M k (P (suc (first (isOpenPair M f P k) N))))) n 0) 0
+        ≡ cond (has X (cond (ltb (first (isOpenPair M f P k) N) N) (posMinus M k (P (suc (first (isOpenPair M f P k) N)))) (count (M .floor) true k))) n 0 =
+        pushed (ltb (first (isOpenPair M f P k) N) N) (posMinus M k (P (suc (first (isOpenPair M f P k) N)))) in
         omega arith
       where
         pushed : (b : Bool) (p : ℕ) → cond b (cond (has X p) n 0) 0 ≡ cond (has X (cond b p (count (M .floor) true k))) n 0

@@ -1,40 +1,24 @@
 -- A step that a move brings about comes from two steps into and out of the path: at departures by the mirror image, and between
 -- arrivals and departures.
-use mathlib.Core.Path.{_≡_, refl, sym, ap, ap₂, subst, subst⁻¹, _∙_}
-use mathlib.Core.Bool.{Bool, true, false, cond, not, _&&_}
+use mathlib.Core.Path.{_≡_, refl, sym, ap, subst, subst⁻¹, _∙_}
+use mathlib.Core.Bool.{true, false}
 use mathlib.Core.Logic.{inl, inr, _⊎_}
-use Prim.Native.Nat.{ℕ, zero, suc, min, _+_, _-_, _^_, _≤_, _<_}
+use Prim.Native.Nat.{ℕ, zero, suc, _+_, _-_, _≤_, _<_}
 use native.Mathlib.Omega.{arith}
-use lib.Dec.{eqb, ltb}
-use Rattle.std.proofs.shelf.Ways.{tells}
-use Rattle.std.proofs.shelf.Tests.{cases-lt, cases-bool, cases-eq, both-ways, eq-eqb, eqb-true, le-ltb, lt-ltb}
-use Rattle.polymatroid.specs.Finite.{first}
-use Rattle.polymatroid.specs.Side.{roomBut, Full, tightSet, plus, minus}
-use Rattle.polymatroid.specs.Critical.{Pairs}
-use Rattle.polymatroid.proofs.Finite.{first-passes, first-before}
-use Rattle.polymatroid.proofs.Side.{tightSet-carries}
-use Rattle.polymatroid.proofs.Room.{member-from-room, full-tight, room-but}
-use Rattle.floor.specs.Floor.{on, place, count, laneAt}
-use Rattle.floor.specs.Meaning.{Meaning, Lawful}
-use Rattle.network.specs.Trays.{trays}
-use Rattle.network.specs.States.{State, Pole, Plus, Minus, at, roomAt, roomAll, roomLess, amount, Ok, Turn, Step, Path, applied, walked}
-use Rattle.network.specs.Feasible.{Fits}
+use Rattle.std.proofs.shelf.Tests.{cases-lt, cases-eq}
+use Rattle.floor.specs.Meaning.{Meaning}
+use Rattle.network.specs.States.{State, Pole, Plus, Minus, at, laneRoom, amount, On-floor, Step, augmented}
 use Rattle.network.specs.Moves.{Moving, Spliced, Steps-splice}
-use Rattle.floor.proofs.Places.{place-apart}
-use Rattle.network.proofs.Paths.{touches, walked-touched, walked-other}
-use Rattle.network.proofs.Visits.{Open, Free, byArrival, byDeparture, open-unless, free-unless, open-free}
-use Rattle.network.proofs.Arrivals.{posPlus, posMinus, isH, isU, theU, endUp, endDown, Held, held, carried, order, here-h, here-u, u-open, full-here, caps, trays-fit, swap-is}
-use Rattle.network.proofs.Exchanges.{tight-held, trays-at}
-use Rattle.network.proofs.Arrived.{splice-in}
-use Rattle.network.proofs.Mirror.{mirror, mir, back, at-mirror, all-mirror, less-mirror, amount-mirror, step-back, step-mirror}
+use Rattle.network.proofs.Visits.{Open, Free}
+use Rattle.network.proofs.Arrivals.{order}
+use Rattle.network.proofs.Mirror.{mirror, mirrored, back, at-mirror, all-mirror, amount-mirror, step-back}
 use Rattle.network.proofs.Moves.{moving-mirror, walked-mirror}
 use Rattle.network.proofs.SpliceIn.{more-plus, free-after, open-before, step-in, step-out, OpenPair, opened, turn-step, in-in}
-use Rattle.network.proofs.Rooms.{tightAt, there, apart, room-is, less-is, all-is}
 
 -- ---- the mirror image
 
 spliced-back : (M : Meaning) (f : ℕ → ℕ) (P : ℕ → State) (N : ℕ) (x y : State)
-    → Spliced (mirror M) f (back P N) N (mir y) (mir x) → Spliced M f P N x y
+    → Spliced (mirror M) f (back P N) N (mirrored y) (mirrored x) → Spliced M f P N x y
 spliced-back M f P N x y c = (
   N - c .1,
   N - c .0,
@@ -44,13 +28,13 @@ spliced-back M f P N x y c = (
   step-back M f (P (N - c .1)) y (c .4),
 )
 
-free-back : (M : Meaning) (f : ℕ → ℕ) (x : State) → Free (mirror M) f (mir x) → Open M f x
+free-back : (M : Meaning) (f : ℕ → ℕ) (x : State) → Free (mirror M) f (mirrored x) → Open M f x
 free-back M f (Pole false) h = tt
 free-back M f (Pole true) h = h
 free-back M f (Plus e) h = omega (arith, all-mirror M f false e)
 free-back M f (Minus e) h = h
 
-open-back : (M : Meaning) (f : ℕ → ℕ) (x : State) → Open (mirror M) f (mir x) → Free M f x
+open-back : (M : Meaning) (f : ℕ → ℕ) (x : State) → Open (mirror M) f (mirrored x) → Free M f x
 open-back M f (Pole false) h = h
 open-back M f (Pole true) h = tt
 open-back M f (Plus e) h = omega (arith, all-mirror M f true e)
@@ -61,13 +45,13 @@ module _ (M : Meaning) (f : ℕ → ℕ) (P : ℕ → State) (N n : ℕ) (m : Mo
   c = moving-mirror M f P N n m
 
   -- a full departure g that comes to have room is stepped to by the open pair
-  opened-out : (g : ℕ) → g < M .floor .lanes → roomAll M f false g ≡ 0 → 0 < roomAll M (walked n P N f) false g
+  opened-out : (g : ℕ) → g < M .floor .lanes → laneRoom M f false g ≡ 0 → 0 < laneRoom M (augmented n P N f) false g
       → (r : ℕ) × (r < N) × (at M true (P r) ≡ M .floor .end false g) × Open M f (P r) × Free M f (P (suc r)) × Step M f (P r) (Plus g)
   unfolding OpenPair
   opened-out g lg z h =
       let k : ℕ = M .floor .end false g in
       let a = opened (mirror M) f (back P N) N n c k (m .laws .rules .end-on false g lg) g lg refl (all-mirror M f true g ∙ z)
-      (omega (arith, all-mirror M (walked n P N f) true g, ap (λ w. roomAll (mirror M) w true g) (walked-mirror M f P N n m))) in
+      (omega (arith, all-mirror M (augmented n P N f) true g, ap (λ w. laneRoom (mirror M) w true g) (walked-mirror M f P N n m))) in
       let r : ℕ = a .0 in
       let q : ℕ = N - suc r in
       let l = a .1 in
@@ -81,23 +65,23 @@ module _ (M : Meaning) (f : ℕ → ℕ) (P : ℕ → State) (N n : ℕ) (m : Mo
       )
 
   out-out : (e g : ℕ) → e < M .floor .lanes → g < M .floor .lanes → M .floor .end false e ≡ M .floor .end false g → (e ≡ g → ⊥)
-      → amount M f (Minus e) (Plus g) ≡ 0 → 0 < amount M (walked n P N f) (Minus e) (Plus g) → Spliced M f P N (Minus e) (Plus g)
+      → amount M f (Minus e) (Plus g) ≡ 0 → 0 < amount M (augmented n P N f) (Minus e) (Plus g) → Spliced M f P N (Minus e) (Plus g)
   out-out e g le lg q ne z h =
       spliced-back M f P N (Minus e) (Plus g)
       (in-in (mirror M) f (back P N) N n c (M .floor .end false g) (m .laws .rules .end-on false g lg) g e lg le refl q (λ r. ne (sym r))
       (amount-mirror M f (Minus e) (Plus g) ∙ z)
       (omega (
         arith,
-        amount-mirror M (walked n P N f) (Minus e) (Plus g),
+        amount-mirror M (augmented n P N f) (Minus e) (Plus g),
         ap (λ w. amount (mirror M) w (Plus g) (Minus e)) (walked-mirror M f P N n m),
       )))
 
   -- an arrival and a departure, both by + lanes
   in-out : (e g : ℕ) → e < M .floor .lanes → g < M .floor .lanes → M .floor .end true e ≡ M .floor .end false g
-      → amount M f (Plus e) (Plus g) ≡ 0 → 0 < amount M (walked n P N f) (Plus e) (Plus g) → Spliced M f P N (Plus e) (Plus g)
+      → amount M f (Plus e) (Plus g) ≡ 0 → 0 < amount M (augmented n P N f) (Plus e) (Plus g) → Spliced M f P N (Plus e) (Plus g)
   unfolding OpenPair
   in-out e g le lg q z h =
-      elim (cases-lt 0 (roomAll M f true e)) [
+      elim (cases-lt 0 (laneRoom M f true e)) [
         | inl oe ↦
             let b = opened-out g lg (omega arith) (omega arith) in
             let r : ℕ = b .0 in (
@@ -111,7 +95,7 @@ module _ (M : Meaning) (f : ℕ → ℕ) (P : ℕ → State) (N n : ℕ) (m : Mo
         | inr ze ↦
             let a = opened M f P N n m (M .floor .end true e) (m .laws .rules .end-on true e le) e le refl (omega arith) (omega arith) in
             let r : ℕ = a .0 in
-            elim (cases-lt 0 (roomAll M f false g)) [
+            elim (cases-lt 0 (laneRoom M f false g)) [
               | inl og ↦ (r, suc r, omega arith, a .1, a .5, step-out M f P N n m r (Plus g) (omega (arith, a .1)) lg (a .2 ∙ q) (a .3) og)
               | inr zg ↦ both r (a .1) (a .2) (a .3) (a .4) (a .5) (opened-out g lg (omega arith) (omega arith))
             ]
@@ -132,7 +116,7 @@ module _ (M : Meaning) (f : ℕ → ℕ) (P : ℕ → State) (N n : ℕ) (m : Mo
 
   -- two - lanes
   void : (e g : ℕ) → e < M .floor .lanes → g < M .floor .lanes → M .floor .end false e ≡ M .floor .end true g
-      → amount M f (Minus e) (Minus g) ≡ 0 → 0 < amount M (walked n P N f) (Minus e) (Minus g) → Spliced M f P N (Minus e) (Minus g)
+      → amount M f (Minus e) (Minus g) ≡ 0 → 0 < amount M (augmented n P N f) (Minus e) (Minus g) → Spliced M f P N (Minus e) (Minus g)
   void e g le lg q z h =
       elim (cases-lt 0 (f g)) [
         | inl fg ↦
@@ -174,7 +158,7 @@ module _ (M : Meaning) (f : ℕ → ℕ) (P : ℕ → State) (N n : ℕ) (m : Mo
       leaves : (r : ℕ) → r < N → P (suc r) ≡ Plus e → at M true (P r) ≡ M .floor .end false e
       leaves r l a = m .path .meet r l ∙ ap (at M false) a
 
-      before : (e : ℕ) → f e < walked n P N f e → (r : ℕ) × (r < N) × (P (suc r) ≡ Plus e)
+      before : (e : ℕ) → f e < augmented n P N f e → (r : ℕ) × (r < N) × (P (suc r) ≡ Plus e)
       before e h = let a = more-plus M f P N n m e h in back-one (a .0) e (a .1) (a .2)
         where
           back-one : (j e : ℕ) → j < N → P j ≡ Plus e → (r : ℕ) × (r < N) × (P (suc r) ≡ Plus e)
@@ -194,7 +178,7 @@ module _ (M : Meaning) (f : ℕ → ℕ) (P : ℕ → State) (N n : ℕ) (m : Mo
           (i, suc r, omega arith, b .1, turn-to (suc r) (b .2), turn-from i a)
 
   -- nothing new at the start, nor at the end
-  start-out : (g : ℕ) → g < M .floor .lanes → M .floor .pole false ≡ M .floor .end false g → roomAll M f false g ≡ 0 → 0 < roomAll M (walked n P N f) false g → ⊥
+  start-out : (g : ℕ) → g < M .floor .lanes → M .floor .pole false ≡ M .floor .end false g → laneRoom M f false g ≡ 0 → 0 < laneRoom M (augmented n P N f) false g → ⊥
   start-out g lg q z h =
       let a = opened-out g lg z h in
       at-start (a .0) (a .1) (a .2) (a .4) (a .5)
@@ -207,10 +191,10 @@ module _ (M : Meaning) (f : ℕ → ℕ) (P : ℕ → State) (N n : ℕ) (m : Mo
           (ap (at M true) (m .path .begin)) (t ∙ sym q) (subst⁻¹ (Open M f) (m .path .begin) tt) o
 
 end-in : (M : Meaning) (f : ℕ → ℕ) (P : ℕ → State) (N n : ℕ) → Moving M f P N n
-    → (e : ℕ) → e < M .floor .lanes → M .floor .end true e ≡ M .floor .pole true → roomAll M f true e ≡ 0 → 0 < roomAll M (walked n P N f) true e → ⊥
+    → (e : ℕ) → e < M .floor .lanes → M .floor .end true e ≡ M .floor .pole true → laneRoom M f true e ≡ 0 → 0 < laneRoom M (augmented n P N f) true e → ⊥
 end-in M f P N n m e le q z h =
     start-out (mirror M) f (back P N) N n (moving-mirror M f P N n m) e le (sym q) (all-mirror M f false e ∙ z)
-    (omega (arith, all-mirror M (walked n P N f) false e, ap (λ w. roomAll (mirror M) w false e) (walked-mirror M f P N n m)))
+    (omega (arith, all-mirror M (augmented n P N f) false e, ap (λ w. laneRoom (mirror M) w false e) (walked-mirror M f P N n m)))
 
 pub steps-splice : Steps-splice
 steps-splice M f P N n m x y s =
@@ -224,12 +208,12 @@ steps-splice M f P N n m x y s =
     ]
   where
     f′ : ℕ → ℕ
-    f′ = walked n P N f
+    f′ = augmented n P N f
 
     same : (e g : ℕ) → e < M .floor .lanes → g < M .floor .lanes → M .floor .end true e ≡ M .floor .end true g → e ≡ g → Step M f (Plus e) (Minus g)
     same e g le lg q r = record { ok-from = le; ok-to = lg; meet = q; some = inr r }
 
-    by : (x y : State) → Ok M x → Ok M y → at M true x ≡ at M false y → amount M f x y ≡ 0 → 0 < amount M f′ x y
+    by : (x y : State) → On-floor M x → On-floor M y → at M true x ≡ at M false y → amount M f x y ≡ 0 → 0 < amount M f′ x y
         → Step M f x y ⊎ Spliced M f P N x y
     by (Pole b) (Pole d) le lg q z h = absurd (omega arith)
     by (Pole false) (Plus g) le lg q z h = absurd (start-out M f P N n m g lg q z h)

@@ -1,33 +1,30 @@
 -- A step that a move brings about at the lanes which enter a station comes from two steps into and out of the path.
-use mathlib.Core.Path.{_≡_, refl, sym, ap, ap₂, subst, subst⁻¹, _∙_}
-use mathlib.Core.Bool.{Bool, true, false, cond, not, _&&_}
+use mathlib.Core.Path.{_≡_, refl, sym, ap, subst, subst⁻¹, _∙_}
+use mathlib.Core.Bool.{true, false, cond}
 use mathlib.Core.Logic.{inl, inr, _⊎_}
-use Prim.Native.Nat.{ℕ, zero, suc, min, _+_, _-_, _^_, _≤_, _<_}
+use Prim.Native.Nat.{ℕ, suc, _+_, _-_, _≤_, _<_}
 use native.Mathlib.Omega.{arith}
-use lib.Dec.{eqb, ltb}
+use lib.Dec.{ltb}
 use Rattle.std.proofs.shelf.Ways.{tells}
-use Rattle.std.proofs.shelf.Tests.{cases-lt, cases-bool, cases-eq, both-ways, eq-eqb, eqb-true, le-ltb, lt-ltb}
+use Rattle.std.proofs.shelf.Tests.{cases-lt, cases-eq, both-ways, eq-eqb, eqb-true, le-ltb, lt-ltb}
 use Rattle.polymatroid.specs.Finite.{first}
-use Rattle.polymatroid.specs.Side.{roomBut, Full, tightSet, plus, minus}
+use Rattle.polymatroid.specs.Side.{roomBut, tightSet, plus, minus}
 use Rattle.polymatroid.specs.Critical.{Pairs}
 use Rattle.polymatroid.proofs.Finite.{first-passes, first-before}
 use Rattle.polymatroid.proofs.Side.{tightSet-carries}
 use Rattle.polymatroid.proofs.Room.{member-from-room, full-tight, room-but}
-use Rattle.floor.specs.Floor.{on, place, count, laneAt}
-use Rattle.floor.specs.Meaning.{Meaning, Lawful}
+use Rattle.floor.specs.Floor.{place, count}
+use Rattle.floor.specs.Meaning.{Meaning}
 use Rattle.network.specs.Trays.{trays}
-use Rattle.network.specs.States.{State, Pole, Plus, Minus, at, roomAt, roomAll, roomLess, amount, Ok, Turn, Step, Path, applied, walked}
-use Rattle.network.specs.Feasible.{Fits}
-use Rattle.network.specs.Moves.{Moving, Spliced, Steps-splice}
+use Rattle.network.specs.States.{State, Pole, Plus, Minus, at, roomAt, laneRoom, laneRoomBut, amount, On-floor, Step, applied, augmented}
+use Rattle.network.specs.Moves.{Moving, Spliced}
 use Rattle.floor.proofs.Places.{place-apart}
 use Rattle.network.proofs.Paths.{touches, walked-touched, walked-other}
 use Rattle.network.proofs.Visits.{Open, Free, byArrival, byDeparture, open-unless, free-unless, open-free}
-use Rattle.network.proofs.Arrivals.{posPlus, posMinus, isH, isU, theU, endUp, endDown, Held, held, carried, order, here-h, here-u, u-open, full-here, caps, trays-fit, swap-is}
-use Rattle.network.proofs.Exchanges.{tight-held, trays-at}
+use Rattle.network.proofs.Arrivals.{posPlus, posMinus, isOpenPair, theOpenPair, openDown, Full-pair, full-pair, carried, order, at-open-pair, open-pair-open, full-here, caps, trays-fit}
+use Rattle.network.proofs.Exchanges.{trays-at}
 use Rattle.network.proofs.Arrived.{splice-in}
-use Rattle.network.proofs.Mirror.{mirror, mir, back, at-mirror, all-mirror, less-mirror, amount-mirror, step-back, step-mirror}
-use Rattle.network.proofs.Moves.{moving-mirror, walked-mirror}
-use Rattle.network.proofs.Rooms.{tightAt, there, apart, room-is, less-is, all-is}
+use Rattle.network.proofs.Rooms.{there, room-is, less-is, all-is}
 
 -- the tests that a + lane fails
 pub plus-arrives : (M : Meaning) (f : ℕ → ℕ) (e : ℕ) (y : State) → byDeparture M f (Plus e) y ≡ false
@@ -40,7 +37,7 @@ plus-departs M f (Minus e) g = refl
 
 module _ (M : Meaning) (f : ℕ → ℕ) (P : ℕ → State) (N n : ℕ) (m : Moving M f P N n) where
   -- a lane that comes to carry more is a + lane of the path
-  pub more-plus : (g : ℕ) → f g < walked n P N f g → (i : ℕ) × (i < N) × (P i ≡ Plus g)
+  pub more-plus : (g : ℕ) → f g < augmented n P N f g → (i : ℕ) × (i < N) × (P i ≡ Plus g)
   unfolding touches plus minus
   more-plus g h =
       elim (cases-lt i N) [
@@ -54,7 +51,7 @@ module _ (M : Meaning) (f : ℕ → ℕ) (P : ℕ → State) (N n : ℕ) (m : Mo
       i : ℕ
       i = first (λ j. touches (P j) g) N
 
-      by : (x : State) → P i ≡ x → touches x g ≡ true → walked n P N f g ≡ applied n (P i) f g → P i ≡ Plus g
+      by : (x : State) → P i ≡ x → touches x g ≡ true → augmented n P N f g ≡ applied n (P i) f g → P i ≡ Plus g
       by (Pole b) q t e = absurd (both-ways false refl t)
       by (Plus a) q t e = q ∙ ap Plus (sym (eqb-true g a t))
       by (Minus a) q t e =
@@ -72,10 +69,10 @@ module _ (M : Meaning) (f : ℕ → ℕ) (P : ℕ → State) (N n : ℕ) (m : Mo
       open-unless M f (P q) (P (suc q)) (m .path .some q l) (ap (byArrival M f (P q)) a ∙ plus-departs M f (P q) e)
 
   -- an open arrival steps into the path, and the path to a free departure
-  pub step-in : (x : State) (j : ℕ) → j ≤ N → Ok M x → at M true x ≡ at M false (P j) → Open M f x → Free M f (P j) → Step M f x (P j)
+  pub step-in : (x : State) (j : ℕ) → j ≤ N → On-floor M x → at M true x ≡ at M false (P j) → Open M f x → Free M f (P j) → Step M f x (P j)
   step-in x j l a c o r = open-free M (m .laws) f (m .fits) x (P j) a (m .path .ok j l) c o r
 
-  pub step-out : (i : ℕ) (y : State) → i ≤ N → Ok M y → at M true (P i) ≡ at M false y → Open M f (P i) → Free M f y → Step M f (P i) y
+  pub step-out : (i : ℕ) (y : State) → i ≤ N → On-floor M y → at M true (P i) ≡ at M false y → Open M f (P i) → Free M f y → Step M f (P i) y
   step-out i y l a c o r = open-free M (m .laws) f (m .fits) (P i) y (m .path .ok i l) a c o r
 
   module _ (k : ℕ) (kin : k < M .floor .stations) where
@@ -90,7 +87,7 @@ module _ (M : Meaning) (f : ℕ → ℕ) (P : ℕ → State) (N n : ℕ) (m : Mo
           elim t [
             | inl q ↦ inr (place-apart (M .floor) true k e b (eq-eqb (M .floor .end true e) k ke) (eq-eqb (M .floor .end true b) k kb) q)
             | inr q ↦
-                let s : roomLess M f true e b ≡ roomBut (count (M .floor) true k) (M .cap true k) (trays M f true k) (place (M .floor) true k e) (place (M .floor) true k b) =
+                let s : laneRoomBut M f true e b ≡ roomBut (count (M .floor) true k) (M .cap true k) (trays M f true k) (place (M .floor) true k e) (place (M .floor) true k b) =
                 less-is M true k f e b ke in
                 inl (omega arith)
           ];
@@ -100,15 +97,15 @@ module _ (M : Meaning) (f : ℕ → ℕ) (P : ℕ → State) (N n : ℕ) (m : Mo
     OpenPair e = (r : ℕ) × (r < N) × (at M true (P r) ≡ k) × Open M f (P r) × Free M f (P (suc r)) × Step M f (Plus e) (P (suc r))
 
     -- by the open pair
-    by-open : (e : ℕ) → e < M .floor .lanes → M .floor .end true e ≡ k → endDown M f P k N < count (M .floor) true k
-        → Pairs (count (M .floor) true k) (M .cap true k) (trays M f true k) (place (M .floor) true k e) (endDown M f P k N) → OpenPair e
-    unfolding endDown theU posMinus OpenPair
+    by-open : (e : ℕ) → e < M .floor .lanes → M .floor .end true e ≡ k → openDown M f P k N < count (M .floor) true k
+        → Pairs (count (M .floor) true k) (M .cap true k) (trays M f true k) (place (M .floor) true k e) (openDown M f P k N) → OpenPair e
+    unfolding openDown theOpenPair posMinus OpenPair
     by-open e le ke l t =
         elim (cases-lt r N) [
           | inl lr ↦
-              let u = first-passes (isU M f P k) N lr in
-              let h = here-u M (m .laws) f (m .fits) P N (m .path) k kin r u in
-              let o = u-open M (m .laws) f (m .fits) P N (m .path) k kin r lr u in
+              let u = first-passes (isOpenPair M f P k) N lr in
+              let h = at-open-pair M (m .laws) f (m .fits) P N (m .path) k kin r u in
+              let o = open-pair-open M (m .laws) f (m .fits) P N (m .path) k kin r lr u in
               let c : cond (ltb r N) (posMinus M k (P (suc r))) (count (M .floor) true k) ≡ posMinus M k (P (suc r)) =
               ap (λ b. cond b (posMinus M k (P (suc r))) (count (M .floor) true k)) (lt-ltb r N lr) in
               (r, lr, h .0, o .0, o .1, by lr (h .0) (P (suc r)) refl (o .1) (rw c at l) (rw c at t))
@@ -119,7 +116,7 @@ module _ (M : Meaning) (f : ℕ → ℕ) (P : ℕ → State) (N n : ℕ) (m : Mo
         ]
       where
         r : ℕ
-        r = first (isU M f P k) N
+        r = first (isOpenPair M f P k) N
 
         by : r < N → at M true (P r) ≡ k → (y : State) → P (suc r) ≡ y → Free M f (P (suc r)) → posMinus M k y < count (M .floor) true k
             → Pairs (count (M .floor) true k) (M .cap true k) (trays M f true k) (place (M .floor) true k e) (posMinus M k y) → Step M f (Plus e) (P (suc r))
@@ -127,16 +124,16 @@ module _ (M : Meaning) (f : ℕ → ℕ) (P : ℕ → State) (N n : ℕ) (m : Mo
         by lr h (Plus b) q o l t = absurd (omega arith)
         by lr h (Minus b) q o l t =
             subst⁻¹ (Step M f (Plus e)) q
-            (pairs-step e b le (subst (Ok M) q (m .path .ok (suc r) lr)) ke (subst (λ z. at M false z ≡ k) q (sym (m .path .meet r lr) ∙ h))
+            (pairs-step e b le (subst (On-floor M) q (m .path .ok (suc r) lr)) ke (subst (λ z. at M false z ≡ k) q (sym (m .path .meet r lr) ∙ h))
             (subst (Free M f) q o) t)
 
     HeldPair : ℕ → ℕ → Type 0
-    HeldPair e g = (r s : ℕ) × (r ≤ s) × (s < N) × Held M f P k r × Step M f (Plus e) (P (suc s))
-        × ((h : Held M f P k r) → Pairs (count (M .floor) true k) (M .cap true k) (trays M f true k) (place (M .floor) true k (h .e)) g)
+    HeldPair e g = (r s : ℕ) × (r ≤ s) × (s < N) × Full-pair M f P k r × Step M f (Plus e) (P (suc s))
+        × ((h : Full-pair M f P k r) → Pairs (count (M .floor) true k) (M .cap true k) (trays M f true k) (place (M .floor) true k (h .e)) g)
 
     new-pair : (e g : ℕ) → e < M .floor .lanes → M .floor .end true e ≡ k
         → (Pairs (count (M .floor) true k) (M .cap true k) (trays M f true k) (place (M .floor) true k e) g → ⊥)
-        → Pairs (count (M .floor) true k) (M .cap true k) (trays M (walked n P N f) true k) (place (M .floor) true k e) g
+        → Pairs (count (M .floor) true k) (M .cap true k) (trays M (augmented n P N f) true k) (place (M .floor) true k e) g
         → OpenPair e ⊎ HeldPair e g
     unfolding HeldPair posPlus posMinus
     new-pair e g le ke never now =
@@ -146,8 +143,8 @@ module _ (M : Meaning) (f : ℕ → ℕ) (P : ℕ → State) (N n : ℕ) (m : Mo
           | inr c ↦
               let r : ℕ = c .0 in
               let s : ℕ = c .1 in
-              let hr = held M (m .laws) f (m .fits) P N (m .path) k kin r (omega (arith, c .2, c .3)) (c .4) in
-              let hs = held M (m .laws) f (m .fits) P N (m .path) k kin s (c .3) (c .5) in
+              let hr = full-pair M (m .laws) f (m .fits) P N (m .path) k kin r (omega (arith, c .2, c .3)) (c .4) in
+              let hs = full-pair M (m .laws) f (m .fits) P N (m .path) k kin s (c .3) (c .5) in
               inr (
                 r,
                 s,
@@ -162,7 +159,7 @@ module _ (M : Meaning) (f : ℕ → ℕ) (P : ℕ → State) (N n : ℕ) (m : Mo
         ]
 
     -- a full lane has no pair with no position
-    full-alone : (e : ℕ) → e < M .floor .lanes → M .floor .end true e ≡ k → roomAll M f true e ≡ 0
+    full-alone : (e : ℕ) → e < M .floor .lanes → M .floor .end true e ≡ k → laneRoom M f true e ≡ 0
         → Pairs (count (M .floor) true k) (M .cap true k) (trays M f true k) (place (M .floor) true k e) (count (M .floor) true k) → ⊥
     full-alone e le ke z t =
         let l = there M true k e le ke in
@@ -172,18 +169,18 @@ module _ (M : Meaning) (f : ℕ → ℕ) (P : ℕ → State) (N n : ℕ) (m : Mo
         elim t [ inl q ↦ omega arith | inr q ↦ omega arith ]
 
     -- a full lane e that comes to have room steps to the open pair
-    pub opened : (e : ℕ) → e < M .floor .lanes → M .floor .end true e ≡ k → roomAll M f true e ≡ 0 → 0 < roomAll M (walked n P N f) true e → OpenPair e
+    pub opened : (e : ℕ) → e < M .floor .lanes → M .floor .end true e ≡ k → laneRoom M f true e ≡ 0 → 0 < laneRoom M (augmented n P N f) true e → OpenPair e
     unfolding HeldPair
     opened e le ke z h =
-        let now : Pairs (count (M .floor) true k) (M .cap true k) (trays M (walked n P N f) true k) (place (M .floor) true k e) (count (M .floor) true k) =
-        inr (omega (arith, room-is M true k (walked n P N f) e (count (M .floor) true k) ke, ap (λ i. roomAt M (walked n P N f) true e (count (M .floor) true i)) ke)) in
+        let now : Pairs (count (M .floor) true k) (M .cap true k) (trays M (augmented n P N f) true k) (place (M .floor) true k e) (count (M .floor) true k) =
+        inr (omega (arith, room-is M true k (augmented n P N f) e (count (M .floor) true k) ke, ap (λ i. roomAt M (augmented n P N f) true e (count (M .floor) true i)) ke)) in
         elim (new-pair e (count (M .floor) true k) le ke (full-alone e le ke z) now) [
           | inl a ↦ a
-          | inr c ↦ let w : Held M f P k (c .0) = c .4 in absurd (full-alone (w .e) (w .e-lane) (w .e-there) (w .full) (c .6 w))
+          | inr c ↦ let w : Full-pair M f P k (c .0) = c .4 in absurd (full-alone (w .e) (w .e-lane) (w .e-there) (w .full) (c .6 w))
         ]
 
     -- a lane of a full lane's tight set carries trays
-    full-carries : (e g : ℕ) → e < M .floor .lanes → g < M .floor .lanes → M .floor .end true e ≡ k → M .floor .end true g ≡ k → (e ≡ g → ⊥) → roomAll M f true e ≡ 0
+    full-carries : (e g : ℕ) → e < M .floor .lanes → g < M .floor .lanes → M .floor .end true e ≡ k → M .floor .end true g ≡ k → (e ≡ g → ⊥) → laneRoom M f true e ≡ 0
         → 0 < roomBut (count (M .floor) true k) (M .cap true k) (trays M f true k) (place (M .floor) true k e) (place (M .floor) true k g) → 0 < f g
     full-carries e g le lg ke kg ne z h =
         let c = caps M (m .laws) f (m .fits) P N (m .path) k kin in
@@ -199,7 +196,7 @@ module _ (M : Meaning) (f : ℕ → ℕ) (P : ℕ → State) (N n : ℕ) (m : Mo
         omega (arith, trays-at M (m .laws) f (m .fits) P N (m .path) k kin g lg kg)
 
     -- a full lane steps to what it pairs with
-    held-step : (e g : ℕ) → e < M .floor .lanes → g < M .floor .lanes → M .floor .end true e ≡ k → M .floor .end true g ≡ k → roomAll M f true e ≡ 0
+    held-step : (e g : ℕ) → e < M .floor .lanes → g < M .floor .lanes → M .floor .end true e ≡ k → M .floor .end true g ≡ k → laneRoom M f true e ≡ 0
         → Pairs (count (M .floor) true k) (M .cap true k) (trays M f true k) (place (M .floor) true k e) (place (M .floor) true k g) → Step M f (Plus e) (Minus g)
     held-step e g le lg ke kg z t =
         elim (cases-eq e g) [
@@ -226,7 +223,7 @@ module _ (M : Meaning) (f : ℕ → ℕ) (P : ℕ → State) (N n : ℕ) (m : Mo
         ]
 
     pub in-in : (e g : ℕ) → e < M .floor .lanes → g < M .floor .lanes → M .floor .end true e ≡ k → M .floor .end true g ≡ k → (e ≡ g → ⊥)
-        → amount M f (Plus e) (Minus g) ≡ 0 → 0 < amount M (walked n P N f) (Plus e) (Minus g) → Spliced M f P N (Plus e) (Minus g)
+        → amount M f (Plus e) (Minus g) ≡ 0 → 0 < amount M (augmented n P N f) (Plus e) (Minus g) → Spliced M f P N (Plus e) (Minus g)
     unfolding OpenPair HeldPair
     in-in e g le lg ke kg ne z h =
         elim (cases-lt 0 R) [
@@ -239,7 +236,7 @@ module _ (M : Meaning) (f : ℕ → ℕ) (P : ℕ → State) (N n : ℕ) (m : Mo
         R : ℕ
         R = roomBut (count (M .floor) true k) (M .cap true k) (trays M f true k) (place (M .floor) true k e) (place (M .floor) true k g)
 
-        R-is : roomLess M f true e g ≡ R
+        R-is : laneRoomBut M f true e g ≡ R
         R-is = less-is M true k f e g ke
 
         differ : place (M .floor) true k e ≡ place (M .floor) true k g → ⊥
@@ -248,8 +245,8 @@ module _ (M : Meaning) (f : ℕ → ℕ) (P : ℕ → State) (N n : ℕ) (m : Mo
         never : R ≤ 0 → Pairs (count (M .floor) true k) (M .cap true k) (trays M f true k) (place (M .floor) true k e) (place (M .floor) true k g) → ⊥
         never nil t = elim t [ inl q ↦ differ q | inr q ↦ omega arith ]
 
-        now : Pairs (count (M .floor) true k) (M .cap true k) (trays M (walked n P N f) true k) (place (M .floor) true k e) (place (M .floor) true k g)
-        now = inr (omega (arith, less-is M true k (walked n P N f) e g ke))
+        now : Pairs (count (M .floor) true k) (M .cap true k) (trays M (augmented n P N f) true k) (place (M .floor) true k e) (place (M .floor) true k g)
+        now = inr (omega (arith, less-is M true k (augmented n P N f) e g ke))
 
         plus-g : f g ≡ 0 → (i : ℕ) × (i < N) × (P i ≡ Plus g)
         plus-g q = more-plus g (omega arith)
@@ -260,7 +257,7 @@ module _ (M : Meaning) (f : ℕ → ℕ) (P : ℕ → State) (N n : ℕ) (m : Mo
             let fg : f g ≡ 0 = omega (arith, R-is) in
             let p = plus-g fg in
             let i : ℕ = p .0 in
-            elim (cases-lt 0 (roomAll M f true e)) [
+            elim (cases-lt 0 (laneRoom M f true e)) [
               | inl o ↦ (
                 i,
                 suc i,
@@ -288,6 +285,6 @@ module _ (M : Meaning) (f : ℕ → ℕ) (P : ℕ → State) (N n : ℕ) (m : Mo
         by-held c =
             let r : ℕ = c .0 in
             let s : ℕ = c .1 in
-            let w : Held M f P k r = c .4 in
+            let w : Full-pair M f P k r = c .4 in
             let t = c .6 w in
             (r, suc s, omega (arith, c .2), c .3, c .5, subst⁻¹ (λ x. Step M f x (Minus g)) (w .from) (held-step (w .e) g (w .e-lane) lg (w .e-there) kg (w .full) t))

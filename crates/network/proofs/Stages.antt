@@ -1,17 +1,16 @@
 -- Lengths rise from stage to stage, and among stages of one length no critical pair comes again.
-use mathlib.Core.Path.{_≡_, refl, sym, ap, ap₂, subst, subst⁻¹, subst₂, _∙_}
-use mathlib.Core.Bool.{Bool, true, false}
-use mathlib.Core.Logic.{inl, inr, _⊎_}
-use Prim.Native.Nat.{ℕ, zero, suc, _+_, _-_, _*_, _≤_, _<_}
+use mathlib.Core.Path.{_≡_, refl, sym, ap, subst, subst⁻¹, subst₂, _∙_}
+use mathlib.Core.Bool.{true, false}
+use mathlib.Core.Logic.{inl, inr}
+use Prim.Native.Nat.{ℕ, zero, suc, _+_, _-_, _≤_, _<_}
 use native.Mathlib.Omega.{arith}
 use Rattle.std.proofs.shelf.Tests.{cases-lt, cases-eq}
-use Rattle.levels.specs.Levels.{Walk, Level, Straight, Along, Splices, Lowest}
+use Rattle.levels.specs.Levels.{Walk, Level, Straight, Along, Splices}
 use Rattle.levels.proofs.Walks.{join-walk, rest-walk, turned-walk}
 use Rattle.levels.proofs.Levels.{levels-rise, levels-rise-back, numbers-rise}
-use Rattle.floor.specs.Meaning.{Meaning, Lawful}
-use Rattle.network.specs.States.{State, Pole, Plus, Minus, at, amount, Turn, Step, Path, walked}
-use Rattle.network.specs.Moves.{Moving}
-use Rattle.network.specs.Stages.{num, Stage, Run, Lengths-rise, Pairs-differ}
+use Rattle.floor.specs.Meaning.{Meaning}
+use Rattle.network.specs.States.{State, Pole, Plus, Minus, at, amount, Step}
+use Rattle.network.specs.Stages.{lane-number, Stage, Run, Lengths-rise, Pairs-differ}
 use Rattle.network.proofs.Paths.{step-at, out-of-end}
 use Rattle.network.proofs.Moves.{pair-dies}
 use Rattle.network.proofs.Splice.{steps-splice}
@@ -130,7 +129,7 @@ module _ (M : Meaning) (T : ℕ) (r : Run M T) where
         elim (q .some) [ inl h ↦ omega arith | inr h ↦ g .moving .path .straight (r .pair s) (g .index) h ]
 
     Above : ℕ → Type 0
-    Above t = (z : State) → Level (R t) (Pole false) (r .pair s) z → R t z y → num x < num z
+    Above t = (z : State) → Level (R t) (Pole false) (r .pair s) z → R t z y → lane-number x < lane-number z
 
     not-end : (t : ℕ) (y : State) → R t (Pole true) y → ⊥
     unfolding R
@@ -138,12 +137,12 @@ module _ (M : Meaning) (T : ℕ) (r : Run M T) where
 
     -- two states at one place before y, with one number
     same-state : (i : ℕ) (z x y : State) → Level (R (suc s)) (Pole false) i z → Level (R s) (Pole false) i x
-        → R (suc s) z y → R s x y → num z ≡ num x → z ≡ x
+        → R (suc s) z y → R s x y → lane-number z ≡ lane-number x → z ≡ x
     unfolding R
     same-state zero z x y lz lx rz rx e = sym (lz .walk) ∙ lx .walk
     same-state (suc i) z x y lz lx rz rx e = by z x lz lx rz rx e
       where
-        by : (z x : State) → Level (R (suc s)) (Pole false) (suc i) z → Level (R s) (Pole false) (suc i) x → R (suc s) z y → R s x y → num z ≡ num x → z ≡ x
+        by : (z x : State) → Level (R (suc s)) (Pole false) (suc i) z → Level (R s) (Pole false) (suc i) x → R (suc s) z y → R s x y → lane-number z ≡ lane-number x → z ≡ x
         by (Pole false) x lz lx rz rx e = absurd (omega (arith, lz .shortest 0 refl))
         by (Pole true) x lz lx rz rx e = absurd (not-end (suc s) y rz)
         by (Plus a) (Pole false) lz lx rz rx e = absurd (omega (arith, lx .shortest 0 refl))
@@ -160,11 +159,11 @@ module _ (M : Meaning) (T : ℕ) (r : Run M T) where
     -- the numbers before y do not fall from one stage to the next while y keeps its level
     lower-one : (t : ℕ) → suc t < T → Level (R t) (Pole false) (suc (r .pair s)) y → Level (R (suc t)) (Pole false) (suc (r .pair s)) y
         → (z : State) → Level (R (suc t)) (Pole false) (r .pair s) z → R (suc t) z y
-        → (z′ : State) × Level (R t) (Pole false) (r .pair s) z′ × R t z′ y × (num z′ ≤ num z)
+        → (z′ : State) × Level (R t) (Pole false) (r .pair s) z′ × R t z′ y × (lane-number z′ ≤ lane-number z)
     unfolding R
     lower-one t l a b z lz rz =
         let st = starts t (omega arith) in
-        let h = numbers-rise State num (R t) (R (suc t)) (r .path t) (r .length t) (r .stage t (omega arith) .straight) (splices t l)
+        let h = numbers-rise State lane-number (R t) (R (suc t)) (r .path t) (r .length t) (r .stage t (omega arith) .straight) (splices t l)
         (r .stage t (omega arith) .lowest) (r .pair s) z y
         (subst⁻¹ (λ q. Level (R t) q (suc (r .pair s)) y) st a) (subst⁻¹ (λ q. Level (R (suc t)) q (suc (r .pair s)) y) st b)
         (subst⁻¹ (λ q. Level (R (suc t)) q (r .pair s) z) st lz) rz in
@@ -175,7 +174,7 @@ module _ (M : Meaning) (T : ℕ) (r : Run M T) where
     above-next a b z lz rz =
         let h = lower-one s ls a b z lz rz in
         let low = g .lowest (r .pair s) (h .0) (g .index) (subst⁻¹ (λ q. Level (R s) q (r .pair s) (h .0)) (starts s (omega arith)) (h .1)) (h .2) in
-        elim (cases-lt (num x) (num z)) [
+        elim (cases-lt (lane-number x) (lane-number z)) [
           | inl k ↦ k
           | inr k ↦
               let e : z ≡ x = same-state (r .pair s) z x y lz (level-at s (omega arith) (r .pair s) (omega (arith, g .index))) rz

@@ -1,22 +1,22 @@
 -- Where the labels are closed, no walk leads from the start to the end.
-use mathlib.Core.Path.{_≡_, refl, sym, ap, subst}
+use mathlib.Core.Path.{_≡_, refl, subst}
 use mathlib.Core.Bool.{Bool, true, false, _||_}
-use mathlib.Core.Logic.{inl, inr, _⊎_}
-use Prim.Native.Nat.{ℕ, zero, suc, _≤_, _<_}
+use mathlib.Core.Logic.{inl, inr}
+use Prim.Native.Nat.{ℕ, zero, suc}
 use native.Mathlib.Omega.{arith}
 use Rattle.std.proofs.shelf.Tests.{or-cases}
 use Rattle.levels.specs.Levels.{Walk}
 use Rattle.floor.specs.Meaning.{Meaning, Lawful}
-use Rattle.network.specs.States.{State, Pole, Plus, Minus, Ok, Turn, Step}
+use Rattle.network.specs.States.{State, Pole, Plus, Minus, On-floor, Turn, Step}
 use Rattle.network.specs.Feasible.{Fits}
-use Rattle.network.specs.Labelling.{holder, Gives}
-use Rattle.network.specs.Finished.{Lab, LabLane, Closed}
+use Rattle.network.specs.Labelling.{holder, Residual}
+use Rattle.network.specs.Finished.{Labelled-state, Labelled-lane, Closed}
 use Rattle.network.proofs.Labelling.{turn?, skip}
 use Rattle.network.proofs.Closed.{step-labels}
 
 module _ (M : Meaning) (laws : Lawful M) (f : ℕ → ℕ) (fits : Fits M f) (pl mi near : ℕ → Bool) (cl : Closed M f pl mi near) where
   -- from a lane whose label has the other sign: the turn is left out
-  other : (z x y : State) → Ok M z → Lab pl mi z → (z ≡ Pole false → ⊥) → holder z ≡ holder x → (z ≡ x → ⊥) → Gives M f x y → LabLane pl mi y
+  other : (z x y : State) → On-floor M z → Labelled-state pl mi z → (z ≡ Pole false → ⊥) → holder z ≡ holder x → (z ≡ x → ⊥) → Residual M f x y → Labelled-lane pl mi y
   other z x y o l n e ne g =
       elim (cl .given z o l) [
         | inl q ↦ absurd (n q)
@@ -24,7 +24,7 @@ module _ (M : Meaning) (laws : Lawful M) (f : ℕ → ℕ) (fits : Fits M f) (pl
       ]
 
   -- a turn leads to the same lane
-  turned : (x y : State) → LabLane pl mi x → Turn x y → LabLane pl mi y
+  turned : (x y : State) → Labelled-lane pl mi x → Turn x y → Labelled-lane pl mi y
   turned (Pole b) y l t = absurd t
   turned (Plus e) (Pole c) l t = absurd t
   turned (Plus e) (Plus g) l t = absurd t
@@ -33,7 +33,7 @@ module _ (M : Meaning) (laws : Lawful M) (f : ℕ → ℕ) (fits : Fits M f) (pl
   turned (Minus e) (Plus g) l t = subst (λ e. (pl e || mi e) ≡ true) t l
   turned (Minus e) (Minus g) l t = absurd t
 
-  onward : (x y : State) → LabLane pl mi x → Gives M f x y → LabLane pl mi y
+  onward : (x y : State) → Labelled-lane pl mi x → Residual M f x y → Labelled-lane pl mi y
   onward (Pole false) y l g = cl .closed (Pole false) y tt g
   onward (Pole true) y l g = absurd l
   onward (Plus e) y l g =
@@ -51,7 +51,7 @@ module _ (M : Meaning) (laws : Lawful M) (f : ℕ → ℕ) (fits : Fits M f) (pl
         | inr m ↦ cl .closed (Minus e) y m g
       ]
 
-  stepped : (x y : State) → LabLane pl mi x → Step M f x y → LabLane pl mi y
+  stepped : (x y : State) → Labelled-lane pl mi x → Step M f x y → Labelled-lane pl mi y
   stepped x y l s =
       elim (turn? x y) [
         | inl t ↦ turned x y l t
@@ -62,8 +62,8 @@ module _ (M : Meaning) (laws : Lawful M) (f : ℕ → ℕ) (fits : Fits M f) (pl
             ]
       ]
 
-  reached : (n : ℕ) (y : State) → Walk (Step M f) (Pole false) n y → LabLane pl mi y
-  reached zero y w = subst (LabLane pl mi) w tt
+  reached : (n : ℕ) (y : State) → Walk (Step M f) (Pole false) n y → Labelled-lane pl mi y
+  reached zero y w = subst (Labelled-lane pl mi) w tt
   reached (suc n) y w = stepped (w .0) y (reached n (w .0) (w .1)) (w .2)
 
   pub no-walk : (n : ℕ) → Walk (Step M f) (Pole false) n (Pole true) → ⊥

@@ -1,14 +1,14 @@
 -- A path at one station: pairs by a full arrival, then at most one open pair, then pairs by a full departure.
-use mathlib.Core.Path.{_≡_, refl, sym, ap, subst, _∙_}
-use mathlib.Core.Bool.{Bool, true, false, cond, not, _&&_}
+use mathlib.Core.Path.{_≡_, sym}
+use mathlib.Core.Bool.{Bool, true, false, not}
 use mathlib.Core.Logic.{inl, inr, _⊎_}
-use Prim.Native.Nat.{ℕ, zero, suc, min, _+_, _-_, _^_, _≤_, _<_}
+use Prim.Native.Nat.{ℕ, _-_, _<_}
 use native.Mathlib.Omega.{arith}
 use lib.Dec.{eqb}
 use Rattle.std.proofs.shelf.Ways.{tells}
-use Rattle.std.proofs.shelf.Tests.{cases-lt, cases-bool, cases-eq, both-ways, eqb-true, eqb-false, ne-eqb, eq-eqb}
+use Rattle.std.proofs.shelf.Tests.{cases-eq}
 use Rattle.floor.specs.Meaning.{Meaning, Lawful}
-use Rattle.network.specs.States.{State, Pole, Plus, Minus, at, roomAll, amount, Ok, Turn, Step, Path}
+use Rattle.network.specs.States.{State, Pole, Plus, Minus, at, laneRoom, amount, On-floor, Turn, Step}
 use Rattle.network.specs.Feasible.{Fits}
 use Rattle.network.proofs.Rooms.{room-less}
 
@@ -16,13 +16,13 @@ use Rattle.network.proofs.Rooms.{room-less}
 abbrev pub Open : Meaning → (ℕ → ℕ) → State → Type 0
 Open M f (Pole false) = Unit {0}
 Open M f (Pole true) = ⊥
-Open M f (Plus e) = 0 < roomAll M f true e
+Open M f (Plus e) = 0 < laneRoom M f true e
 Open M f (Minus e) = 0 < f e
 
 abbrev pub Free : Meaning → (ℕ → ℕ) → State → Type 0
 Free M f (Pole false) = ⊥
 Free M f (Pole true) = Unit {0}
-Free M f (Plus e) = 0 < roomAll M f false e
+Free M f (Plus e) = 0 < laneRoom M f false e
 Free M f (Minus e) = 0 < f e
 
 -- a pair by a full arrival, and one by a full departure
@@ -30,14 +30,14 @@ abbrev pub byArrival : Meaning → (ℕ → ℕ) → State → State → Bool
 byArrival M f (Pole b) y = false
 byArrival M f (Plus e) (Pole c) = false
 byArrival M f (Plus e) (Plus g) = false
-byArrival M f (Plus e) (Minus g) = eqb (roomAll M f true e) 0
+byArrival M f (Plus e) (Minus g) = eqb (laneRoom M f true e) 0
 byArrival M f (Minus e) y = false
 
 abbrev pub byDeparture : Meaning → (ℕ → ℕ) → State → State → Bool
 byDeparture M f (Pole b) y = false
 byDeparture M f (Plus e) y = false
 byDeparture M f (Minus e) (Pole c) = false
-byDeparture M f (Minus e) (Plus g) = eqb (roomAll M f false g) 0
+byDeparture M f (Minus e) (Plus g) = eqb (laneRoom M f false g) 0
 byDeparture M f (Minus e) (Minus g) = false
 
 pub open-unless : (M : Meaning) (f : ℕ → ℕ) (x y : State) → 0 < amount M f x y → byArrival M f x y ≡ false → Open M f x
@@ -68,10 +68,10 @@ free-unless M f (Minus e) (Minus g) h t = omega arith
 
 module _ (M : Meaning) (laws : Lawful M) (f : ℕ → ℕ) (fits : Fits M f) where
   -- an open arrival steps to each free departure of its station
-  pub open-free : (x y : State) → Ok M x → Ok M y → at M true x ≡ at M false y → Open M f x → Free M f y → Step M f x y
+  pub open-free : (x y : State) → On-floor M x → On-floor M y → at M true x ≡ at M false y → Open M f x → Free M f y → Step M f x y
   open-free x y a b m o q = record { ok-from = a; ok-to = b; meet = m; some = by x y a b m o q }
     where
-      by : (x y : State) → Ok M x → Ok M y → at M true x ≡ at M false y → Open M f x → Free M f y → (0 < amount M f x y) ⊎ Turn x y
+      by : (x y : State) → On-floor M x → On-floor M y → at M true x ≡ at M false y → Open M f x → Free M f y → (0 < amount M f x y) ⊎ Turn x y
       by (Pole false) (Pole false) a b m o q = absurd q
       by (Pole false) (Pole true) a b m o q = absurd (laws .rules .poles-differ m)
       by (Pole true) y a b m o q = absurd o

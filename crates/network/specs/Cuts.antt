@@ -1,10 +1,10 @@
 -- Plans and cuts of a floor.
 use mathlib.Core.Path.{_≡_}
 use mathlib.Core.Bool.{Bool, true, false, cond, not, _&&_}
-use Prim.Native.Nat.{ℕ, zero, suc, _+_, _*_, _^_, _≤_, _<_}
+use Prim.Native.Nat.{ℕ, _+_, _*_, _^_, _≤_, _<_}
 use Rattle.polymatroid.specs.Sets.{code}
 use Rattle.polymatroid.specs.Side.{load}
-use Rattle.floor.specs.Floor.{on, place, count, laneAt}
+use Rattle.floor.specs.Floor.{on, count, laneAt}
 use Rattle.floor.specs.Meaning.{Meaning, Lawful}
 use Rattle.network.specs.Trays.{trays}
 use Rattle.network.specs.Sums.{sumTo}

@@ -2,41 +2,41 @@
 use mathlib.Core.Path.{_≡_}
 use mathlib.Core.Bool.{Bool, true, false, not, _||_}
 use mathlib.Core.Logic.{_⊎_}
-use Prim.Native.Nat.{ℕ, zero, suc, _*_, _≤_, _<_}
+use Prim.Native.Nat.{ℕ, _*_, _≤_, _<_}
 use Rattle.floor.specs.Meaning.{Meaning, Lawful}
-use Rattle.network.specs.States.{State, Pole, Plus, Minus, at, roomAll, Ok}
+use Rattle.network.specs.States.{State, Pole, Plus, Minus, at, laneRoom, On-floor}
 use Rattle.network.specs.Feasible.{Fits}
-use Rattle.network.specs.Labelling.{Gives}
+use Rattle.network.specs.Labelling.{Residual}
 use Rattle.network.specs.Cuts.{Balanced, FitsBy, total, capacity}
 
 -- the state is labelled, by the lanes with + and those with -
-abbrev pub Lab : (ℕ → Bool) → (ℕ → Bool) → State → Type 0
-Lab pl mi (Pole false) = Unit {0}
-Lab pl mi (Pole true) = ⊥
-Lab pl mi (Plus e) = pl e ≡ true
-Lab pl mi (Minus e) = mi e ≡ true
+abbrev pub Labelled-state : (ℕ → Bool) → (ℕ → Bool) → State → Type 0
+Labelled-state pl mi (Pole false) = Unit {0}
+Labelled-state pl mi (Pole true) = ⊥
+Labelled-state pl mi (Plus e) = pl e ≡ true
+Labelled-state pl mi (Minus e) = mi e ≡ true
 
 -- its lane is
-abbrev pub LabLane : (ℕ → Bool) → (ℕ → Bool) → State → Type 0
-LabLane pl mi (Pole false) = Unit {0}
-LabLane pl mi (Pole true) = ⊥
-LabLane pl mi (Plus e) = (pl e || mi e) ≡ true
-LabLane pl mi (Minus e) = (pl e || mi e) ≡ true
+abbrev pub Labelled-lane : (ℕ → Bool) → (ℕ → Bool) → State → Type 0
+Labelled-lane pl mi (Pole false) = Unit {0}
+Labelled-lane pl mi (Pole true) = ⊥
+Labelled-lane pl mi (Plus e) = (pl e || mi e) ≡ true
+Labelled-lane pl mi (Minus e) = (pl e || mi e) ≡ true
 
 -- a state from which the station is open
 abbrev pub Opens : Meaning → (ℕ → ℕ) → State → Type 0
 Opens M f (Pole false) = Unit {0}
 Opens M f (Pole true) = ⊥
-Opens M f (Plus e) = 0 < roomAll M f true e
+Opens M f (Plus e) = 0 < laneRoom M f true e
 Opens M f (Minus e) = 0 < f e
 
 pub record Closed (M : Meaning) (f : ℕ → ℕ) (pl mi near : ℕ → Bool) : Type 0 where
   -- each label has its giver, and what a labelled state gives is labelled
-  pub given : (y : State) → Ok M y → Lab pl mi y → (y ≡ Pole false) ⊎ ((x : State) × Lab pl mi x × Gives M f x y)
-  pub closed : (x y : State) → Lab pl mi x → Gives M f x y → LabLane pl mi y
+  pub given : (y : State) → On-floor M y → Labelled-state pl mi y → (y ≡ Pole false) ⊎ ((x : State) × Labelled-state pl mi x × Residual M f x y)
+  pub closed : (x y : State) → Labelled-state pl mi x → Residual M f x y → Labelled-lane pl mi y
   -- the stations that a labelled state opens
-  pub near-if : (x : State) → Ok M x → Lab pl mi x → Opens M f x → near (at M true x) ≡ true
-  pub near-only : (i : ℕ) → near i ≡ true → (x : State) × Ok M x × Lab pl mi x × Opens M f x × (at M true x ≡ i)
+  pub near-if : (x : State) → On-floor M x → Labelled-state pl mi x → Opens M f x → near (at M true x) ≡ true
+  pub near-only : (i : ℕ) → near i ≡ true → (x : State) × On-floor M x × Labelled-state pl mi x × Opens M f x × (at M true x ≡ i)
 
 abbrev pub upper : (ℕ → Bool) → (ℕ → Bool) → ℕ → Bool
 upper pl mi e = not (pl e || mi e)

@@ -1,25 +1,24 @@
 -- Moves one after the other, each along a shortest path of lowest lane numbers.
 use mathlib.Core.Path.{_≡_}
-use mathlib.Core.Bool.{Bool, true, false}
-use Prim.Native.Nat.{ℕ, zero, suc, _+_, _-_, _*_, _≤_, _<_}
+use Prim.Native.Nat.{ℕ, suc, _+_, _-_, _*_, _≤_, _<_}
 use lib.Dec.{eqb}
 use Rattle.levels.specs.Counting.{tally}
 use Rattle.levels.specs.Levels.{Straight, Lowest}
 use Rattle.floor.specs.Meaning.{Meaning}
-use Rattle.network.specs.States.{State, Pole, Plus, Minus, amount, Step, walked}
+use Rattle.network.specs.States.{State, Pole, Plus, Minus, amount, Step, augmented}
 use Rattle.network.specs.Moves.{Moving}
 
 -- the number of a state's lane
-abbrev pub num : State → ℕ
-num (Pole b) = 0
-num (Plus e) = e
-num (Minus e) = e
+abbrev pub lane-number : State → ℕ
+lane-number (Pole b) = 0
+lane-number (Plus e) = e
+lane-number (Minus e) = e
 
 -- a move of n along P, which the pair at q limits
 pub record Stage (M : Meaning) (f : ℕ → ℕ) (P : ℕ → State) (N n q : ℕ) : Type 0 where
   pub moving : Moving M f P N n
   pub straight : Straight (Step M f) P N
-  pub lowest : Lowest num (Step M f) P N
+  pub lowest : Lowest lane-number (Step M f) P N
   pub index : q < N
   pub critical : amount M f (P q) (P (suc q)) ≡ n
 
@@ -30,7 +29,7 @@ pub record Run (M : Meaning) (T : ℕ) : Type 0 where
   pub amt : ℕ → ℕ
   pub pair : ℕ → ℕ
   pub stage : (s : ℕ) → s < T → Stage M (trays s) (path s) (length s) (amt s) (pair s)
-  pub next : (s : ℕ) → suc s < T → trays (suc s) ≡ walked (amt s) (path s) (length s) (trays s)
+  pub next : (s : ℕ) → suc s < T → trays (suc s) ≡ augmented (amt s) (path s) (length s) (trays s)
 
 abbrev pub Lengths-rise : Type 0
 Lengths-rise = (M : Meaning) (T : ℕ) (r : Run M T) (s t : ℕ) → s ≤ t → t < T → r .length s ≤ r .length t

@@ -1,5 +1,5 @@
 -- Sums over the numbers below a bound, and what a state gives to a set or takes from it.
-use mathlib.Core.Bool.{Bool, true, false, cond, _&&_}
+use mathlib.Core.Bool.{Bool, cond, _&&_}
 use Prim.Native.Nat.{ℕ, zero, suc, _+_}
 use Rattle.polymatroid.specs.Sets.{has}
 use Rattle.floor.specs.Floor.{on, place}

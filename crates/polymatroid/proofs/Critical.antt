@@ -1,30 +1,29 @@
 -- A critical pair is no pair afterwards, and a new pair splices.
-use mathlib.Core.Path.{_≡_, refl, sym, ap, _∙_}
-use mathlib.Core.Bool.{Bool, true, false, cond, not, _&&_, _||_}
+use mathlib.Core.Path.{_≡_, refl}
+use mathlib.Core.Bool.{cond}
 use mathlib.Core.List.{List, [], _∷_}
 use mathlib.Core.Logic.{inl, inr, _⊎_}
-use Prim.Native.Nat.{ℕ, zero, suc, _+_, _-_, _^_, _≤_, _<_}
+use Prim.Native.Nat.{ℕ, suc, _+_, _-_, _^_, _≤_, _<_}
 use native.Mathlib.Omega.{arith}
-use lib.Bits.{bitAnd, bitOr, and-lt, or-lt}
-use lib.ListN.{length, getD, drop}
+use lib.Bits.{bitAnd, and-lt}
+use lib.ListN.{length, drop}
 use Rattle.std.specs.shelf.Lists.{All}
-use Rattle.std.proofs.shelf.Ways.{tells}
 use Rattle.std.proofs.shelf.Tests.{cases-bool, cases-lt, cases-eq, both-ways}
 use Rattle.std.proofs.shelf.Lists.{drop-all}
 use lib.Seq.{drop-cons}
 use Rattle.std.proofs.shelf.Elements.{all-getD}
 use Rattle.polymatroid.specs.Sets.{has}
-use Rattle.polymatroid.specs.Side.{load, In, Out, Caps, Within, Tight, tightSet, plus, minus, moved, roomBut, Full}
-use Rattle.polymatroid.specs.Exchange.{Swap, swapped, after, ups, downs, Sound, Ends, Clear, InTurn, Move}
-use Rattle.polymatroid.specs.Critical.{nth, Pairs, Critical-dies, Room-splices}
-use Rattle.polymatroid.proofs.Codes.{has-and, has-or, has-past}
-use Rattle.polymatroid.proofs.Side.{uncross-and, uncross-or, tightSet-in, tightSet-smallest}
-use Rattle.polymatroid.proofs.Room.{roomBut-le, roomBut-at, roomBut-full, full-tight, tight-full}
-use Rattle.polymatroid.proofs.Exchange.{Same-on, load-moved, all-still, all-keep}
+use Rattle.polymatroid.specs.Side.{load, In, Out, Caps, Within, Tight, tightSet, roomBut}
+use Rattle.polymatroid.specs.Exchange.{Exchange, after, ups, downs, Sound, Ends, InTurn, Side-move}
+use Rattle.polymatroid.specs.Critical.{nth, Pairs, Critical-pair-dies, New-pair-splices}
+use Rattle.polymatroid.proofs.Codes.{has-and, has-past}
+use Rattle.polymatroid.proofs.Side.{uncross-and, tightSet-in, tightSet-smallest}
+use Rattle.polymatroid.proofs.Room.{roomBut-le, roomBut-at, roomBut-full}
+use Rattle.polymatroid.proofs.Exchange.{all-keep}
 use Rattle.polymatroid.proofs.Covers.{out-from, gain, loss, load-after, cover, tight-of, cover-set, cover-left, cover-gain, cover-keeps, cover-in, turn-ends, turn-later, turn-rest, ups-none, downs-none}
 
 module _ (k : ℕ) (cap : ℕ → ℕ) (caps : Caps k cap) (w : ℕ → ℕ) (fits : Within k cap w) (n u v : ℕ) where
-  module _ (ends : Ends k cap w n u v) (ss : List Swap) (sound : All (Sound k cap w n) ss) (turn : InTurn k cap w u v ss) where
+  module _ (ends : Ends k cap w n u v) (ss : List Exchange) (sound : All (Sound k cap w n) ss) (turn : InTurn k cap w u v ss) where
     -- a set that gains, behind the first q, what is left below its cap: its cover is tight afterwards
     cover-tight : (q Z : ℕ) → Z < 2 ^ k → cap Z + loss k cap caps w fits n u v (drop q ss) Z ≤ load w k Z + gain k cap caps w fits n u v (drop q ss) Z
         → Tight k cap (after n u v ss w) (cover k cap caps w fits n u v q ss Z)
@@ -62,7 +61,7 @@ module _ (k : ℕ) (cap : ℕ → ℕ) (caps : Caps k cap) (w : ℕ → ℕ) (fi
         ]))
 
     -- an exchange c at i, by a set that has just n left
-    pair-dies : (i : ℕ) (c : Swap) → i < length ss → nth k ss i ≡ c → Sound k cap w n c
+    pair-dies : (i : ℕ) (c : Exchange) → i < length ss → nth k ss i ≡ c → Sound k cap w n c
         → (X : ℕ) → X < 2 ^ k → In X (c .up) → Out X (c .down) → load w k X + n ≡ cap X
         → roomBut k cap (after n u v ss w) (c .up) (c .down) ≡ 0
     unfolding gain loss ups downs
@@ -95,7 +94,7 @@ module _ (k : ℕ) (cap : ℕ → ℕ) (caps : Caps k cap) (w : ℕ → ℕ) (fi
         ]))
 
     -- the last exchange that takes trays from S
-    last-down : (S : ℕ) (ts : List Swap)
+    last-down : (S : ℕ) (ts : List Exchange)
         → All (λ t. Out S (t .down)) ts
         ⊎ ((j : ℕ) × (j < length ts) × In S (nth k ts j .down) × All (λ t. Out S (t .down)) (drop (suc j) ts))
     last-down S [] = inl tt
@@ -105,7 +104,7 @@ module _ (k : ℕ) (cap : ℕ → ℕ) (caps : Caps k cap) (w : ℕ → ℕ) (fi
           | inr r ↦ inr (suc (r .0), omega (arith, r .1), r .2, r .3)
         ]
 
-    no-downs : (S : ℕ) (ts : List Swap) → All (λ t. Out S (t .down)) ts → downs n ts S ≡ 0
+    no-downs : (S : ℕ) (ts : List Exchange) → All (λ t. Out S (t .down)) ts → downs n ts S ≡ 0
     unfolding downs
     no-downs S [] a = refl
     no-downs S (t ∷ ts) a = let ih = no-downs S ts (a .1) in let o = a .0 in grind arith
@@ -169,8 +168,8 @@ module _ (k : ℕ) (cap : ℕ → ℕ) (caps : Caps k cap) (w : ℕ → ℕ) (fi
               | inr h ↦ absurd (by-tight (cover k cap caps w fits n u v (suc j) ss S) t′ (cover-keeps k cap caps w fits n u v (suc j) ss S e (s .1)) h)
             ]
 
-pub critical-dies : Critical-dies
-critical-dies k cap w n u v ss m = (at-ends, at-pair)
+pub critical-pair-dies : Critical-pair-dies
+critical-pair-dies k cap w n u v ss m = (at-ends, at-pair)
   where
     at-ends : u < k → roomBut k cap w u v ≡ n → roomBut k cap (after n u v ss w) u v ≡ 0
     at-ends l e =
@@ -185,8 +184,8 @@ critical-dies k cap w n u v ss m = (at-ends, at-pair)
         pair-dies k cap (m .caps) w (m .fits) n u v (m .ends) ss (m .sound) (m .turn) i (nth k ss i) l refl o
         (a .0) (a .1) (a .2) (a .3) (omega (arith, a .4))
 
-pub room-splices : Room-splices
-room-splices k cap w n u v ss m e g l not-yet now =
+pub new-pair-splices : New-pair-splices
+new-pair-splices k cap w n u v ss m e g l not-yet now =
     elim now [
       | inl q ↦ absurd (not-yet (inl q))
       | inr r ↦
@@ -198,7 +197,7 @@ room-splices k cap w n u v ss m e g l not-yet now =
     ]
 
 -- what a set carries after a move
-pub load-move : (k : ℕ) (cap w : ℕ → ℕ) (n u v : ℕ) (ss : List Swap) → Move k cap w n u v ss → (X : ℕ) → X < 2 ^ k
+pub load-move : (k : ℕ) (cap w : ℕ → ℕ) (n u v : ℕ) (ss : List Exchange) → Side-move k cap w n u v ss → (X : ℕ) → X < 2 ^ k
     → load (after n u v ss w) k X + (cond (has X v) n 0 + downs n ss X) ≡ load w k X + (cond (has X u) n 0 + ups n ss X)
 unfolding gain loss
 load-move k cap w n u v ss m X l = load-after k cap (m .caps) w (m .fits) n u v (m .ends) ss X l (m .sound) (m .turn)

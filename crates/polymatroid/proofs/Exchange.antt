@@ -1,20 +1,19 @@
 -- Exchanges on one side keep the trays within the caps.
-use mathlib.Core.Path.{_≡_, refl, sym, ap, _∙_}
-use mathlib.Core.Bool.{Bool, true, false, cond, not, _&&_, _||_}
+use mathlib.Core.Path.{_≡_, refl}
+use mathlib.Core.Bool.{cond, not}
 use mathlib.Core.List.{List, [], _∷_}
-use mathlib.Core.Logic.{inl, inr, _⊎_}
-use Prim.Native.Nat.{ℕ, zero, suc, _+_, _-_, _^_, _≤_, _<_}
+use mathlib.Core.Logic.{inl, inr}
+use Prim.Native.Nat.{ℕ, _+_, _-_, _^_, _≤_, _<_}
 use native.Mathlib.Omega.{arith}
-use lib.Dec.{eqb}
-use lib.Bits.{bitAnd, bitOr, and-lt}
+use lib.Bits.{bitAnd, and-lt}
 use Rattle.std.specs.shelf.Lists.{All}
 use Rattle.std.proofs.shelf.Ways.{tells}
-use Rattle.std.proofs.shelf.Tests.{cases-bool, cases-lt}
+use Rattle.std.proofs.shelf.Tests.{cases-lt}
 use Rattle.polymatroid.specs.Sets.{has}
-use Rattle.polymatroid.specs.Side.{load, In, Out, Caps, Within, Tight, tightSet, plus, minus, moved, roomBut, Full}
-use Rattle.polymatroid.specs.Exchange.{Swap, swapped, after, Sound, Ends, Clear, InTurn, Move, Moves-keep}
+use Rattle.polymatroid.specs.Side.{load, In, Out, Caps, Within, Tight, tightSet, plus, minus, moved}
+use Rattle.polymatroid.specs.Exchange.{Exchange, exchanged, after, Sound, Ends, Clear, InTurn, Exchanges-keep}
 use Rattle.polymatroid.proofs.Codes.{has-and, has-past}
-use Rattle.polymatroid.proofs.Side.{load-same, load-plus-any, load-minus-any, uncross-and, tightSet-in}
+use Rattle.polymatroid.proofs.Side.{load-same, load-plus-any, load-minus-any, uncross-and}
 use Rattle.polymatroid.proofs.Room.{roomBut-le, full-tight}
 
 -- what a set carries after trays went from g to h, each on the side or not
@@ -56,16 +55,16 @@ module _ (k : ℕ) (cap w : ℕ → ℕ) (n u v : ℕ) where
   S p = tightSet k cap w p
 
   -- exchanges that a tight set is clear of leave it alone
-  pub all-still : (p : ℕ) (ss : List Swap) → Clear k cap w p u v → All (λ t. Clear k cap w p (t .up) (t .down)) ss
+  pub all-still : (p : ℕ) (ss : List Exchange) → Clear k cap w p u v → All (λ t. Clear k cap w p (t .up) (t .down)) ss
       → Same-on k (after n u v ss w) w (tightSet k cap w p)
-  unfolding swapped
+  unfolding exchanged
   all-still p [] c a = still k w w u v n (tightSet k cap w p) (c .0) (c .1) (same-self k w (tightSet k cap w p))
   all-still p (s ∷ ss) c a =
       still k w (after n u v ss w) (s .up) (s .down) n (tightSet k cap w p) (a .0 .0) (a .0 .1) (all-still p ss c (a .1))
 
   module _ (caps : Caps k cap) (fits : Within k cap w) where
     -- one exchange, after others that left its tight set alone
-    one : (x : ℕ → ℕ) (s : Swap) → Within k cap x → Sound k cap w n s → Same-on k x w (tightSet k cap w (s .up))
+    one : (x : ℕ → ℕ) (s : Exchange) → Within k cap x → Sound k cap w n s → Same-on k x w (tightSet k cap w (s .up))
         → Within k cap (moved x (s .up) (s .down) n)
     unfolding Same-on
     one x s fits′ o same X l =
@@ -103,12 +102,12 @@ module _ (k : ℕ) (cap w : ℕ → ℕ) (n u v : ℕ) where
         ] in
         grind arith
 
-    pub all-keep : (ss : List Swap) → Ends k cap w n u v → All (Sound k cap w n) ss → InTurn k cap w u v ss
+    pub all-keep : (ss : List Exchange) → Ends k cap w n u v → All (Sound k cap w n) ss → InTurn k cap w u v ss
         → Within k cap (after n u v ss w)
-    unfolding swapped
+    unfolding exchanged
     all-keep [] d o i = ends-keep d
     all-keep (s ∷ ss) d o i =
         one (after n u v ss w) s (all-keep ss d (o .1) (i .2)) (o .0) (all-still (s .up) ss (i .0) (i .1))
 
-pub moves-keep : Moves-keep
-moves-keep k cap w n u v ss m = all-keep k cap w n u v (m .caps) (m .fits) ss (m .ends) (m .sound) (m .turn)
+pub exchanges-keep : Exchanges-keep
+exchanges-keep k cap w n u v ss m = all-keep k cap w n u v (m .caps) (m .fits) ss (m .ends) (m .sound) (m .turn)

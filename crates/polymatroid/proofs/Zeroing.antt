@@ -1,6 +1,6 @@
 -- The room of a position with the trays of another put to 0 is its room over the sets without that other.
 use mathlib.Core.Path.{_≡_, refl, sym, ap, _∙_}
-use mathlib.Core.Bool.{Bool, true, false, cond, not, _&&_}
+use mathlib.Core.Bool.{false, not, _&&_}
 use mathlib.Core.Logic.{inl, inr}
 use Prim.Native.Nat.{ℕ, zero, suc, _+_, _^_, _≤_, _<_}
 use native.Mathlib.Omega.{arith}
@@ -10,7 +10,7 @@ use Rattle.std.proofs.shelf.Bits.{pow-below}
 use Rattle.std.proofs.shelf.Ways.{tells}
 use Rattle.std.proofs.shelf.Tests.{cases-bool, cases-lt, both-ways}
 use Rattle.polymatroid.specs.Sets.{has, without}
-use Rattle.polymatroid.specs.Side.{load, In, Out, Caps, Within, room, roomBut, tightSet}
+use Rattle.polymatroid.specs.Side.{load, In, Out, Caps, Within, room, roomBut}
 use Rattle.polymatroid.specs.Room.{zeroed, Zeroing, Members-by-room}
 use Rattle.polymatroid.proofs.Codes.{has-or, has-one, has-without, has-past, without-below, same-sets}
 use Rattle.polymatroid.proofs.Room.{roomBut-le, roomBut-at, room-but, roomBut-full, member-from-room}

@@ -3,36 +3,36 @@
 use mathlib.Core.Path.{_≡_}
 use mathlib.Core.Bool.{cond}
 use mathlib.Core.List.{List, [], _∷_}
-use Prim.Native.Nat.{ℕ, _+_, _^_, _≤_, _<_}
+use Prim.Native.Nat.{ℕ, _+_, _≤_, _<_}
 use Rattle.std.specs.shelf.Lists.{All}
 use Rattle.polymatroid.specs.Sets.{has}
-use Rattle.polymatroid.specs.Side.{load, In, Out, Caps, Within, Tight, Full, tightSet, plus, minus, moved, roomBut}
+use Rattle.polymatroid.specs.Side.{In, Out, Caps, Within, Full, tightSet, moved, roomBut}
 
 -- an exchange: n trays more at `up`, n fewer at `down`
-pub record Swap : Type 0 where
+pub record Exchange : Type 0 where
   pub up : ℕ
   pub down : ℕ
 
 -- the trays after the exchanges, the last of the list made first
-unfoldable pub swapped : ℕ → List Swap → (ℕ → ℕ) → ℕ → ℕ
-swapped n [] w = w
-swapped n (s ∷ ss) w = moved (swapped n ss w) (s .up) (s .down) n
+unfoldable pub exchanged : ℕ → List Exchange → (ℕ → ℕ) → ℕ → ℕ
+exchanged n [] w = w
+exchanged n (s ∷ ss) w = moved (exchanged n ss w) (s .up) (s .down) n
 
 -- the trays after the whole move
-abbrev pub after : ℕ → ℕ → ℕ → List Swap → (ℕ → ℕ) → ℕ → ℕ
-after n u v ss w = swapped n ss (moved w u v n)
+abbrev pub after : ℕ → ℕ → ℕ → List Exchange → (ℕ → ℕ) → ℕ → ℕ
+after n u v ss w = exchanged n ss (moved w u v n)
 
 -- the trays that the exchanges of a list put into a set, and those that they take from it
-unfoldable pub ups : ℕ → List Swap → ℕ → ℕ
+unfoldable pub ups : ℕ → List Exchange → ℕ → ℕ
 ups n [] X = 0
 ups n (s ∷ ss) X = cond (has X (s .up)) n 0 + ups n ss X
 
-unfoldable pub downs : ℕ → List Swap → ℕ → ℕ
+unfoldable pub downs : ℕ → List Exchange → ℕ → ℕ
 downs n [] X = 0
 downs n (s ∷ ss) X = cond (has X (s .down)) n 0 + downs n ss X
 
 -- an exchange by the tight set of its first position
-pub record Sound (k : ℕ) (cap w : ℕ → ℕ) (n : ℕ) (s : Swap) : Type 0 where
+pub record Sound (k : ℕ) (cap w : ℕ → ℕ) (n : ℕ) (s : Exchange) : Type 0 where
   pub up-on : s .up < k
   pub down-on : s .down < k
   pub apart : s .up ≡ s .down → ⊥
@@ -55,12 +55,12 @@ abbrev pub Clear : ℕ → (ℕ → ℕ) → (ℕ → ℕ) → ℕ → ℕ → �
 Clear k cap w p u v = Out (tightSet k cap w p) u × Out (tightSet k cap w p) v
 
 -- each exchange's tight set is clear of u and v and of the exchanges after it in the list
-abbrev pub InTurn : ℕ → (ℕ → ℕ) → (ℕ → ℕ) → ℕ → ℕ → List Swap → Type 0
+abbrev pub InTurn : ℕ → (ℕ → ℕ) → (ℕ → ℕ) → ℕ → ℕ → List Exchange → Type 0
 InTurn k cap w u v [] = Unit {0}
 InTurn k cap w u v (s ∷ ss) =
     Clear k cap w (s .up) u v × All (λ t. Clear k cap w (s .up) (t .up) (t .down)) ss × InTurn k cap w u v ss
 
-pub record Move (k : ℕ) (cap w : ℕ → ℕ) (n u v : ℕ) (ss : List Swap) : Type 0 where
+pub record Side-move (k : ℕ) (cap w : ℕ → ℕ) (n u v : ℕ) (ss : List Exchange) : Type 0 where
   pub caps : Caps k cap
   pub fits : Within k cap w
   pub ends : Ends k cap w n u v
@@ -68,6 +68,6 @@ pub record Move (k : ℕ) (cap w : ℕ → ℕ) (n u v : ℕ) (ss : List Swap) :
   pub turn : InTurn k cap w u v ss
 
 -- a move leaves the trays within the caps
-abbrev pub Moves-keep : Type 0
-Moves-keep =
-    (k : ℕ) (cap w : ℕ → ℕ) (n u v : ℕ) (ss : List Swap) → Move k cap w n u v ss → Within k cap (after n u v ss w)
+abbrev pub Exchanges-keep : Type 0
+Exchanges-keep =
+    (k : ℕ) (cap w : ℕ → ℕ) (n u v : ℕ) (ss : List Exchange) → Side-move k cap w n u v ss → Within k cap (after n u v ss w)

@@ -1,7 +1,7 @@
 -- What rooms tell: which positions are full, which lie in a tight set, and that one function answers it all.
 use mathlib.Core.Path.{_≡_}
 use mathlib.Core.Bool.{cond}
-use Prim.Native.Nat.{ℕ, _≤_, _<_}
+use Prim.Native.Nat.{ℕ, _<_}
 use lib.Dec.{eqb}
 use Rattle.polymatroid.specs.Side.{In, Caps, Within, Full, room, roomBut, tightSet}
 

@@ -5,8 +5,8 @@
 ghost use Rattle.polymatroid.specs.Sets.{Bits-agree};
 ghost use Rattle.polymatroid.specs.Side.{Tight-sets};
 ghost use Rattle.polymatroid.specs.Room.{Zeroing, Members-by-room};
-ghost use Rattle.polymatroid.specs.Exchange.{Moves-keep};
-ghost use Rattle.polymatroid.specs.Critical.{Critical-dies, Room-splices};
+ghost use Rattle.polymatroid.specs.Exchange.{Exchanges-keep};
+ghost use Rattle.polymatroid.specs.Critical.{Critical-pair-dies, New-pair-splices};
 ghost use Rattle.polymatroid.specs.Tables.{Tables-tested, Tests-decide};
 
 // The lane-by-lane test of a table names the lowest law that the table breaks, or none where it keeps them all.
@@ -47,18 +47,18 @@ pub fn members_by_room()
 
 // Exchanges made in turn leave the trays within the caps.
 pub fn exchanges_keep_within_caps()
-    ensures { λ _. ⌜ Moves-keep ⌝ }
+    ensures { λ _. ⌜ Exchanges-keep ⌝ }
 {
 }
 
 // A pair whose room is the amount has no room afterwards.
 pub fn critical_pair_dies()
-    ensures { λ _. ⌜ Critical-dies ⌝ }
+    ensures { λ _. ⌜ Critical-pair-dies ⌝ }
 {
 }
 
 // A pair that the exchanges bring about comes from two pairs that stood before.
 pub fn new_pair_splices()
-    ensures { λ _. ⌜ Room-splices ⌝ }
+    ensures { λ _. ⌜ New-pair-splices ⌝ }
 {
 }

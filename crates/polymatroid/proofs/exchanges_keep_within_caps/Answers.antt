@@ -1,5 +1,5 @@
-use Rattle.polymatroid.proofs.Exchange.{moves-keep}
+use Rattle.polymatroid.proofs.Exchange.{exchanges-keep}
 use Rattle.polymatroid.proofs.exchanges_keep_within_caps.Needs as need
 
 pub returns : need.returns
-returns c = moves-keep
+returns c = exchanges-keep

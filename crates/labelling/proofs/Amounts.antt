@@ -9,7 +9,7 @@ use Rattle.std.proofs.shelf.Tests.{cases-lt, eq-eqb, ne-eqb}
 use Rattle.polymatroid.proofs.Finite.{least-le, least-at}
 use Rattle.floor.specs.Meaning.{Meaning, Lawful}
 use Rattle.network.specs.States.{State, Pole, Plus, Minus, at, amount, laneRoom, laneRoomBut, On-floor, Path}
-use Rattle.network.specs.Feasible.{Fits}
+use Rattle.network.specs.Plans.{Fits}
 use Rattle.labelling.specs.Rules.{ruled}
 use Rattle.labelling.specs.Table.{Mark, Ended, label, path}
 use Rattle.labelling.specs.Amount.{roomBeside, term, leastTerm}

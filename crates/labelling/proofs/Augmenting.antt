@@ -9,7 +9,7 @@ use Rattle.std.proofs.shelf.Tests.{cases-lt, cases-eq, cases-bool}
 use Rattle.levels.specs.Levels.{Walk, Level}
 use Rattle.floor.specs.Meaning.{Meaning, Lawful}
 use Rattle.network.specs.States.{State, Pole, Plus, Minus, at, amount, laneRoom, laneRoomBut, On-floor, Turn, Step}
-use Rattle.network.specs.Feasible.{Fits}
+use Rattle.network.specs.Plans.{Fits}
 use Rattle.network.specs.Stages.{lane-number}
 use Rattle.network.specs.Labelling.{holder, Found}
 use Rattle.labelling.specs.Rules.{full, inTight, ruled, Carries}

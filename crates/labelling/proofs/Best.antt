@@ -7,8 +7,8 @@ use Prim.Native.Nat.{ℕ}
 use native.Mathlib.Omega.{arith}
 use Rattle.floor.specs.Meaning.{Meaning}
 use Rattle.network.specs.States.{State}
-use Rattle.network.specs.Feasible.{Fits}
-use Rattle.network.specs.Cuts.{FitsBy, total, capacity}
+use Rattle.network.specs.Plans.{Fits, FitsBy, total}
+use Rattle.network.specs.Cuts.{capacity}
 use Rattle.network.proofs.Cuts.{cut-bounds}
 use Rattle.network.proofs.Closed.{stock-near, despatch-far}
 use Rattle.labelling.specs.Rules.{ruled}

@@ -11,9 +11,9 @@ use Rattle.polymatroid.specs.Finite.{first}
 use Rattle.polymatroid.proofs.Finite.{first-passes, first-before}
 use Rattle.floor.specs.Meaning.{Meaning, Lawful}
 use Rattle.network.specs.States.{State, Pole, Plus, Minus, at, On-floor}
-use Rattle.network.specs.Feasible.{Fits}
+use Rattle.network.specs.Plans.{Fits, Balanced, FitsBy, total}
 use Rattle.network.specs.Labelling.{Residual}
-use Rattle.network.specs.Cuts.{Balanced, FitsBy, total, capacity}
+use Rattle.network.specs.Cuts.{capacity}
 use Rattle.network.specs.Finished.{Labelled-state, Labelled-lane, Opens, Closed}
 use Rattle.network.proofs.Finished.{finished-best}
 use Rattle.labelling.specs.Rules.{full, ruled}

@@ -8,7 +8,7 @@ use native.Mathlib.Omega.{arith}
 use Rattle.std.proofs.shelf.Tests.{cases-lt, both-ways}
 use Rattle.floor.specs.Meaning.{Meaning, Lawful}
 use Rattle.network.specs.States.{State, Pole, Plus, Minus, On-floor}
-use Rattle.network.specs.Feasible.{Fits}
+use Rattle.network.specs.Plans.{Fits}
 use Rattle.network.specs.Stages.{lane-number}
 use Rattle.network.specs.Labelling.{holder, Residual, Level-labels, Found}
 use Rattle.network.proofs.Labelling.{found}

@@ -11,7 +11,7 @@ use Rattle.std.proofs.shelf.Lists.{ext-getD}
 use Rattle.levels.specs.Levels.{Walk}
 use Rattle.floor.specs.Meaning.{Meaning, Lawful}
 use Rattle.network.specs.States.{State, Pole, Step}
-use Rattle.network.specs.Feasible.{Fits}
+use Rattle.network.specs.Plans.{Fits}
 use Rattle.network.specs.Stages.{lane-number}
 use Rattle.network.proofs.Unreached.{no-walk}
 use Rattle.labelling.specs.Rules.{ruled}

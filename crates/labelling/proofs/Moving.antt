@@ -8,8 +8,7 @@ use native.Mathlib.Omega.{arith}
 use lib.ListN.{length, getD}
 use Rattle.floor.specs.Meaning.{Meaning, Lawful}
 use Rattle.network.specs.States.{Pole, Minus, amount}
-use Rattle.network.specs.Feasible.{Fits}
-use Rattle.network.specs.Cuts.{Balanced, total}
+use Rattle.network.specs.Plans.{Fits, Balanced, total}
 use Rattle.network.proofs.Loads.{minus-carries}
 use Rattle.network.proofs.Moves.{move-fits}
 use Rattle.network.proofs.Balance.{move-balances}

@@ -10,7 +10,7 @@ use Rattle.polymatroid.specs.Finite.{first, least}
 use Rattle.polymatroid.proofs.Finite.{first-passes, first-before, least-le, least-at}
 use Rattle.floor.specs.Meaning.{Meaning, Lawful}
 use Rattle.network.specs.States.{State, amount}
-use Rattle.network.specs.Feasible.{Fits}
+use Rattle.network.specs.Plans.{Fits}
 use Rattle.network.specs.Stages.{Stage}
 use Rattle.network.specs.Labelling.{Found}
 

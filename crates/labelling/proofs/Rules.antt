@@ -9,7 +9,7 @@ use Rattle.std.proofs.shelf.Tests.{cases-bool, both-ways, eq-eqb, ne-eqb, eqb-t
 use Rattle.polymatroid.specs.Side.{room}
 use Rattle.floor.specs.Meaning.{Meaning, Lawful}
 use Rattle.network.specs.States.{State, Pole, Plus, Minus, laneRoom, laneRoomBut, On-floor}
-use Rattle.network.specs.Feasible.{Fits}
+use Rattle.network.specs.Plans.{Fits}
 use Rattle.network.specs.Labelling.{Residual}
 use Rattle.network.proofs.Rooms.{all-is, member-full, member-room, room-member, member-carries, room-less}
 use Rattle.labelling.specs.Rules.{full, inTight, ruled, Carries, Rules-give}

@@ -11,7 +11,7 @@ use Rattle.levels.specs.Counting.{tally}
 use Rattle.levels.proofs.Counting.{tally-same, tally-first}
 use Rattle.floor.specs.Meaning.{Meaning, Lawful}
 use Rattle.network.specs.States.{State, Pole, augmented}
-use Rattle.network.specs.Feasible.{Fits}
+use Rattle.network.specs.Plans.{Fits}
 use Rattle.network.specs.Stages.{Stage, Run}
 use Rattle.network.proofs.Stages.{lengths-rise}
 use Rattle.network.proofs.Bound.{few-share-a-length, few-stages}

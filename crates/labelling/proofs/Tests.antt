@@ -15,10 +15,8 @@ use Rattle.polymatroid.proofs.Tables.{every-at, named}
 use Rattle.floor.specs.Numbers.{most-stations, most-lanes, most-on-side, top-cap}
 use Rattle.floor.specs.Floor.{Floor, Floor-rules, count}
 use Rattle.floor.specs.Meaning.{Meaning}
-use Rattle.network.specs.Trays.{trays}
+use Rattle.network.specs.Plans.{trays, Fits, through, total, Balanced}
 use Rattle.network.specs.States.{State, Pole, Plus, Minus}
-use Rattle.network.specs.Feasible.{Fits}
-use Rattle.network.specs.Cuts.{through, total, Balanced}
 use Rattle.labelling.specs.Steps.{Move, step, made, Follow, madeAll}
 use Rattle.labelling.specs.Worked.{Worked, Works, nth}
 

@@ -7,9 +7,8 @@ use Rattle.polymatroid.specs.Sets.{has}
 use Rattle.polymatroid.specs.Side.{room, tightSet}
 use Rattle.floor.specs.Floor.{place, count}
 use Rattle.floor.specs.Meaning.{Meaning, Lawful}
-use Rattle.network.specs.Trays.{trays}
+use Rattle.network.specs.Plans.{trays, Fits}
 use Rattle.network.specs.States.{State, Pole, Plus, Minus, On-floor}
-use Rattle.network.specs.Feasible.{Fits}
 use Rattle.network.specs.Labelling.{Residual}
 
 -- lane e is full at its end d: the least that is left below the cap of a set with e is 0

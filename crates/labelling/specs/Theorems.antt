@@ -9,19 +9,13 @@ use mathlib.Core.Option.{none, some}
 use Rattle.floor.specs.Floor.{stock, despatch}
 use Rattle.floor.specs.Meaning.{Meaning, Lawful}
 use Rattle.network.specs.States.{State, Pole, Minus}
-use Rattle.network.specs.Feasible.{Fits}
-use Rattle.network.specs.Cuts.{Balanced, FitsBy, total, capacity}
+use Rattle.network.specs.Plans.{Feasible, Balanced, FitsBy, total}
+use Rattle.network.specs.Cuts.{capacity}
 use Rattle.labelling.specs.Table.{label}
 use Rattle.labelling.specs.Augmenting.{Augments, Before}
 use Rattle.labelling.specs.Steps.{Move, step, made, Follow, outcome, labels}
 use Rattle.labelling.specs.Near.{near, unlabelled}
 use Rattle.labelling.specs.Cases.{Case, FullPlus, FullMinus, Opening, ruledBy, Listed}
-
--- a plan: no set of lanes of a side carries more than its cap, and as many trays enter each station as leave it, the stock and
--- the despatch apart
-pub record Feasible (M : Meaning) (f : ℕ → ℕ) : Type 0 where
-  pub within : Fits M f
-  pub balanced : Balanced M f
 
 -- ---- a step finds the first shortest path
 

@@ -12,9 +12,8 @@ use Rattle.floor.specs.Numbers.{top-cap}
 use Rattle.floor.specs.Floor.{Floor}
 use Rattle.floor.specs.Meaning.{Meaning, Lawful}
 use Rattle.network.specs.States.{State, Plus, Minus}
-use Rattle.network.specs.Cuts.{total}
+use Rattle.network.specs.Plans.{total, Feasible}
 use Rattle.labelling.specs.Steps.{Move, step, Follow, madeAll}
-use Rattle.labelling.specs.Theorems.{Feasible}
 
 -- the number at place i of a list
 abbrev pub nth : List ℕ → ℕ → ℕ

@@ -14,9 +14,8 @@ use Rattle.polymatroid.specs.Exchange.{Exchange, Sound, Clear, InTurn}
 use Rattle.polymatroid.proofs.Room.{roomBut-full, member-from-room}
 use Rattle.floor.specs.Floor.{on, place, count}
 use Rattle.floor.specs.Meaning.{Meaning, Lawful}
-use Rattle.network.specs.Trays.{trays}
+use Rattle.network.specs.Plans.{trays, Fits}
 use Rattle.network.specs.States.{State, Pole, Plus, Minus, at, laneRoom, laneRoomBut, amount, Step, Path}
-use Rattle.network.specs.Feasible.{Fits}
 use Rattle.floor.proofs.Places.{laneAt-place}
 use Rattle.network.proofs.Hits.{hits}
 use Rattle.network.proofs.Visits.{Open, Free, byArrival, byDeparture, open-unless, free-unless, open-free}

@@ -20,9 +20,8 @@ use Rattle.polymatroid.specs.Critical.{nth, Pairs}
 use Rattle.polymatroid.proofs.Finite.{first-passes, first-before}
 use Rattle.floor.specs.Floor.{on, place, count}
 use Rattle.floor.specs.Meaning.{Meaning, Lawful}
-use Rattle.network.specs.Trays.{trays}
+use Rattle.network.specs.Plans.{trays, Fits}
 use Rattle.network.specs.States.{State, Plus, at, amount, Path, augmented}
-use Rattle.network.specs.Feasible.{Fits}
 use Rattle.floor.proofs.Places.{place-below}
 use Rattle.network.proofs.Hits.{hits, hit-index, hit-at, hits-rise}
 use Rattle.network.proofs.Loads.{load-walked}

@@ -10,8 +10,10 @@ use Rattle.polymatroid.specs.Sets.{has}
 use Rattle.floor.specs.Floor.{on, place}
 use Rattle.floor.specs.Meaning.{Meaning, Lawful}
 use Rattle.network.specs.States.{State, Pole, Plus, Minus, at, On-floor, augmented}
-use Rattle.network.specs.Sums.{sumTo, partAt, given, taken}
-use Rattle.network.specs.Cuts.{through, setOf}
+use Rattle.network.proofs.Sums.{partAt, given, taken}
+use Rattle.polymatroid.specs.Kinds.{sumTo}
+use Rattle.network.specs.Cuts.{setOf}
+use Rattle.network.specs.Plans.{through}
 use Rattle.network.specs.Moves.{Moving, Move-balances}
 use Rattle.floor.proofs.Places.{place-below}
 use Rattle.network.proofs.Hits.{sum-same, sum-both, sum-shift, sum-none}

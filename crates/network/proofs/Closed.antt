@@ -9,9 +9,8 @@ use Rattle.polymatroid.specs.Sets.{has}
 use Rattle.polymatroid.specs.Side.{In, tightSet}
 use Rattle.floor.specs.Floor.{place, count}
 use Rattle.floor.specs.Meaning.{Meaning, Lawful}
-use Rattle.network.specs.Trays.{trays}
+use Rattle.network.specs.Plans.{trays, Fits}
 use Rattle.network.specs.States.{State, Pole, Plus, Minus, at, laneRoom, On-floor, Turn, Step}
-use Rattle.network.specs.Feasible.{Fits}
 use Rattle.network.specs.Labelling.{Residual}
 use Rattle.network.specs.Finished.{Labelled-state, Labelled-lane, Opens, Closed}
 use Rattle.network.proofs.Rooms.{there, tight-at, member-full, member-room, room-member, member-within, member-carries}

@@ -12,9 +12,9 @@ use Rattle.polymatroid.specs.Side.{load}
 use Rattle.polymatroid.proofs.Codes.{has-code, code-below}
 use Rattle.floor.specs.Floor.{on, place, count, laneAt}
 use Rattle.floor.specs.Meaning.{Meaning, Lawful}
-use Rattle.network.specs.Trays.{trays}
-use Rattle.network.specs.Sums.{sumTo}
-use Rattle.network.specs.Cuts.{through, total, Balanced, setOf, crosses, capacity, Cut-bounds}
+use Rattle.network.specs.Plans.{trays, through, total, Balanced}
+use Rattle.polymatroid.specs.Kinds.{sumTo}
+use Rattle.network.specs.Cuts.{setOf, crosses, capacity, Cut-bounds}
 use Rattle.floor.proofs.Places.{place-takes, laneAt-place}
 use Rattle.network.proofs.Hits.{sum-same, sum-both, sum-none}
 

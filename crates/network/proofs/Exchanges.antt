@@ -18,9 +18,8 @@ use Rattle.polymatroid.proofs.Side.{tightSet-nested}
 use Rattle.polymatroid.proofs.Room.{room-but, full-tight, tight-full}
 use Rattle.floor.specs.Floor.{place, count}
 use Rattle.floor.specs.Meaning.{Meaning, Lawful}
-use Rattle.network.specs.Trays.{trays}
+use Rattle.network.specs.Plans.{trays, Fits}
 use Rattle.network.specs.States.{State, Pole, Plus, Minus, at, laneRoom, laneRoomBut, amount, On-floor, Path}
-use Rattle.network.specs.Feasible.{Fits}
 use Rattle.floor.proofs.Places.{laneAt-place}
 use Rattle.network.proofs.Hits.{hits, all-hits}
 use Rattle.network.proofs.Visits.{Open, Free, byArrival}

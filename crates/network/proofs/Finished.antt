@@ -9,9 +9,8 @@ use Rattle.polymatroid.specs.Side.{load, In, Tight, tightSet}
 use Rattle.polymatroid.proofs.Unions.{cap-mono, union-tight}
 use Rattle.floor.specs.Floor.{on, place, count, laneAt}
 use Rattle.floor.specs.Meaning.{Meaning, Lawful}
-use Rattle.network.specs.Trays.{trays}
-use Rattle.network.specs.Feasible.{Fits}
-use Rattle.network.specs.Cuts.{through, total, Balanced, setOf, crosses, capacity}
+use Rattle.network.specs.Plans.{trays, Fits, through, total, Balanced}
+use Rattle.network.specs.Cuts.{setOf, crosses, capacity}
 use Rattle.network.specs.Finished.{Closed, upper, Finished-best}
 use Rattle.floor.proofs.Places.{laneAt-there}
 use Rattle.network.proofs.Rooms.{tight-at}

@@ -13,7 +13,7 @@ use Rattle.std.proofs.shelf.Tests.{cases-eq, both-ways}
 use Rattle.std.proofs.shelf.Elements.{all-getD}
 use Rattle.polymatroid.specs.Finite.{first}
 use Rattle.polymatroid.proofs.Finite.{first-le, first-passes}
-use Rattle.network.specs.Sums.{sumTo}
+use Rattle.polymatroid.specs.Kinds.{sumTo}
 
 -- those of the c numbers from a on that pass t
 unfoldable pub hits : (ℕ → Bool) → ℕ → ℕ → List ℕ

@@ -1,7 +1,8 @@
 pub mod Paths
-pub mod Loads
 pub mod Rooms
 pub mod Hits
+pub mod Sums
+pub mod Loads
 pub mod Visits
 pub mod Arrivals
 pub mod Exchanges

@@ -11,9 +11,10 @@ use Rattle.polymatroid.specs.Side.{load, plus, minus}
 use Rattle.polymatroid.proofs.Side.{load-same, load-plus, load-minus}
 use Rattle.floor.specs.Floor.{on, place, count, laneAt}
 use Rattle.floor.specs.Meaning.{Meaning}
-use Rattle.network.specs.Trays.{trays}
+use Rattle.network.specs.Plans.{trays}
 use Rattle.network.specs.States.{State, Pole, Plus, Minus, amount, Path, applied, augmented}
-use Rattle.network.specs.Sums.{sumTo, partAt, given, taken}
+use Rattle.network.proofs.Sums.{partAt, given, taken}
+use Rattle.polymatroid.specs.Kinds.{sumTo}
 use Rattle.floor.proofs.Places.{place-below, laneAt-there, laneAt-place}
 use Rattle.network.proofs.Paths.{touches, walked-fresh}
 

@@ -10,9 +10,8 @@ use Rattle.polymatroid.specs.Finite.{first}
 use Rattle.polymatroid.specs.Side.{roomBut}
 use Rattle.floor.specs.Floor.{place, count, laneAt}
 use Rattle.floor.specs.Meaning.{Meaning, Lawful}
-use Rattle.network.specs.Trays.{trays}
+use Rattle.network.specs.Plans.{trays, Fits}
 use Rattle.network.specs.States.{State, Pole, Plus, Minus, at, roomAt, laneRoom, laneRoomBut, amount, On-floor, Turn, Step, Path, applied, augmented}
-use Rattle.network.specs.Feasible.{Fits}
 use Rattle.polymatroid.proofs.Finite.{first-passes, first-before}
 use Rattle.std.proofs.shelf.Tests.{cases-lt, cases-eq, both-ways}
 use Rattle.network.proofs.Paths.{touches, walked-other, walked-touched}

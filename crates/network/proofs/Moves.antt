@@ -9,7 +9,7 @@ use Rattle.std.proofs.shelf.Tests.{cases-lt, cases-eq, eq-eqb}
 use Rattle.polymatroid.specs.Side.{Within, minus}
 use Rattle.floor.specs.Floor.{count}
 use Rattle.floor.specs.Meaning.{Meaning}
-use Rattle.network.specs.Trays.{trays}
+use Rattle.network.specs.Plans.{trays}
 use Rattle.network.specs.States.{State, Pole, Plus, Minus, at, roomAt, laneRoom, laneRoomBut, amount, On-floor, applied, augmented}
 use Rattle.network.specs.Moves.{Moving, Move-fits, Pair-dies}
 use Rattle.network.proofs.Paths.{touches, walked-touched}

@@ -9,7 +9,7 @@ use Rattle.std.proofs.shelf.Ways.{tells}
 use Rattle.std.proofs.shelf.Tests.{cases-bool, cases-eq, both-ways, eqb-true, ne-eqb}
 use Rattle.polymatroid.specs.Side.{plus, minus}
 use Rattle.floor.specs.Meaning.{Meaning}
-use Rattle.network.specs.Trays.{trays}
+use Rattle.network.specs.Plans.{trays}
 use Rattle.network.specs.States.{State, Pole, Plus, Minus, at, amount, Turn, Step, Path, applied, augmented}
 
 -- nothing steps to the start, and the end steps to nothing

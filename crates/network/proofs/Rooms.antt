@@ -10,9 +10,8 @@ use Rattle.polymatroid.proofs.Room.{room-but, roomBut-full, full-tight, tight-f
 use Rattle.floor.specs.Floor.{on, place, count}
 use Rattle.floor.specs.Meaning.{Meaning, Lawful}
 use Rattle.floor.proofs.Places.{place-below, place-apart, laneAt-place}
-use Rattle.network.specs.Trays.{trays}
+use Rattle.network.specs.Plans.{trays, Fits}
 use Rattle.network.specs.States.{roomAt, laneRoom, laneRoomBut}
-use Rattle.network.specs.Feasible.{Fits}
 
 -- the smallest tight set of lane e among the lanes with their end d at station k
 abbrev pub tightAt : Meaning → (ℕ → ℕ) → Bool → ℕ → ℕ → ℕ

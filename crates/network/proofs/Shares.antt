@@ -11,10 +11,10 @@ use Rattle.polymatroid.specs.Exchange.{Exchange, ups, downs}
 use Rattle.polymatroid.proofs.Codes.{has-past}
 use Rattle.floor.specs.Floor.{place, count}
 use Rattle.floor.specs.Meaning.{Meaning, Lawful}
-use Rattle.network.specs.Trays.{trays}
+use Rattle.network.specs.Plans.{trays, Fits}
 use Rattle.network.specs.States.{State, Pole, Plus, Minus, at, Path}
-use Rattle.network.specs.Feasible.{Fits}
-use Rattle.network.specs.Sums.{sumTo, given, taken}
+use Rattle.network.proofs.Sums.{given, taken}
+use Rattle.polymatroid.specs.Kinds.{sumTo}
 use Rattle.network.proofs.Hits.{hits, sum-same, sum-both, sum-shift, sum-front, sum-first}
 use Rattle.network.proofs.Visits.{byArrival, byDeparture}
 use Rattle.network.proofs.Arrivals.{posPlus, posMinus, isFullPair, isOpenPair, exchangeAt, theOpenPair, openUp, openDown, exchangesAt, one-open-pair}

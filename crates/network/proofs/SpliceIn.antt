@@ -15,7 +15,7 @@ use Rattle.polymatroid.proofs.Side.{tightSet-carries}
 use Rattle.polymatroid.proofs.Room.{member-from-room, full-tight, room-but}
 use Rattle.floor.specs.Floor.{place, count}
 use Rattle.floor.specs.Meaning.{Meaning}
-use Rattle.network.specs.Trays.{trays}
+use Rattle.network.specs.Plans.{trays}
 use Rattle.network.specs.States.{State, Pole, Plus, Minus, at, roomAt, laneRoom, laneRoomBut, amount, On-floor, Step, applied, augmented}
 use Rattle.network.specs.Moves.{Moving, Spliced}
 use Rattle.floor.proofs.Places.{place-apart}

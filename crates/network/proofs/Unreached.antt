@@ -8,7 +8,7 @@ use Rattle.std.proofs.shelf.Tests.{or-cases}
 use Rattle.levels.specs.Levels.{Walk}
 use Rattle.floor.specs.Meaning.{Meaning, Lawful}
 use Rattle.network.specs.States.{State, Pole, Plus, Minus, On-floor, Turn, Step}
-use Rattle.network.specs.Feasible.{Fits}
+use Rattle.network.specs.Plans.{Fits}
 use Rattle.network.specs.Labelling.{holder, Residual}
 use Rattle.network.specs.Finished.{Labelled-state, Labelled-lane, Closed}
 use Rattle.network.proofs.Labelling.{turn?, skip}

@@ -1,31 +1,12 @@
--- Plans and cuts of a floor.
+-- Cuts of a floor, and that no plan carries more than a cut lets through.
 use mathlib.Core.Path.{_≡_}
 use mathlib.Core.Bool.{Bool, true, false, cond, not, _&&_}
-use Prim.Native.Nat.{ℕ, _+_, _*_, _^_, _≤_, _<_}
+use Prim.Native.Nat.{ℕ, _+_, _*_, _≤_}
 use Rattle.polymatroid.specs.Sets.{code}
-use Rattle.polymatroid.specs.Side.{load}
-use Rattle.floor.specs.Floor.{on, count, laneAt}
+use Rattle.floor.specs.Floor.{count, laneAt}
 use Rattle.floor.specs.Meaning.{Meaning, Lawful}
-use Rattle.network.specs.Trays.{trays}
-use Rattle.network.specs.Sums.{sumTo}
-
--- the trays of the lanes with their end d at station i, of those lanes that pass t
-unfoldable pub through : Meaning → (ℕ → ℕ) → (ℕ → Bool) → Bool → ℕ → ℕ
-through M g t d i = sumTo (λ e. cond (on (M .floor) d i e && t e) (g e) 0) (M .floor .lanes)
-
--- what leaves the stock
-abbrev pub total : Meaning → (ℕ → ℕ) → ℕ
-total M g = through M g (λ e. true) false (M .floor .pole false)
-
--- as many trays enter a station as leave it
-abbrev pub Balanced : Meaning → (ℕ → ℕ) → Type 0
-Balanced M g =
-    (i : ℕ) → i < M .floor .stations → (i ≡ M .floor .pole false → ⊥) → (i ≡ M .floor .pole true → ⊥)
-    → through M g (λ e. true) true i ≡ through M g (λ e. true) false i
-
--- no set carries more than q times its cap
-abbrev pub FitsBy : Meaning → ℕ → (ℕ → ℕ) → Type 0
-FitsBy M q g = (d : Bool) (i X : ℕ) → i < M .floor .stations → X < 2 ^ (count (M .floor) d i) → load (trays M g d i) (count (M .floor) d i) X ≤ q * M .cap d i X
+use Rattle.network.specs.Plans.{Balanced, FitsBy, total}
+use Rattle.polymatroid.specs.Kinds.{sumTo}
 
 -- the code of the lanes that pass t, at station i by their end d
 unfoldable pub setOf : Meaning → Bool → ℕ → (ℕ → Bool) → ℕ

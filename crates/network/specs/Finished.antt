@@ -5,9 +5,9 @@ use mathlib.Core.Logic.{_⊎_}
 use Prim.Native.Nat.{ℕ, _*_, _≤_, _<_}
 use Rattle.floor.specs.Meaning.{Meaning, Lawful}
 use Rattle.network.specs.States.{State, Pole, Plus, Minus, at, laneRoom, On-floor}
-use Rattle.network.specs.Feasible.{Fits}
+use Rattle.network.specs.Plans.{Fits, Balanced, FitsBy, total}
 use Rattle.network.specs.Labelling.{Residual}
-use Rattle.network.specs.Cuts.{Balanced, FitsBy, total, capacity}
+use Rattle.network.specs.Cuts.{capacity}
 
 -- the state is labelled, by the lanes with + and those with -
 abbrev pub Labelled-state : (ℕ → Bool) → (ℕ → Bool) → State → Type 0

@@ -6,7 +6,7 @@ use Rattle.levels.specs.Levels.{Straight, Lowest}
 use Rattle.levels.specs.Search.{Labels}
 use Rattle.floor.specs.Meaning.{Meaning, Lawful}
 use Rattle.network.specs.States.{State, Pole, Plus, Minus, at, amount, On-floor, Turn, Step, Path}
-use Rattle.network.specs.Feasible.{Fits}
+use Rattle.network.specs.Plans.{Fits}
 use Rattle.network.specs.Stages.{lane-number}
 
 -- the lane that a label is for; the start and the end have numbers of their own

@@ -1,9 +1,7 @@
-pub mod Trays
+pub mod Plans
 pub mod States
-pub mod Sums
-pub mod Feasible
-pub mod Cuts
 pub mod Moves
 pub mod Stages
 pub mod Labelling
+pub mod Cuts
 pub mod Finished

@@ -5,8 +5,7 @@ use mathlib.Core.Logic.{_⊎_}
 use Prim.Native.Nat.{ℕ, suc, _+_, _≤_, _<_}
 use Rattle.floor.specs.Meaning.{Meaning, Lawful}
 use Rattle.network.specs.States.{State, amount, Step, Path, augmented}
-use Rattle.network.specs.Feasible.{Fits}
-use Rattle.network.specs.Cuts.{Balanced, total}
+use Rattle.network.specs.Plans.{Fits, Balanced, total}
 
 -- a move of n along P
 pub record Moving (M : Meaning) (f : ℕ → ℕ) (P : ℕ → State) (N n : ℕ) : Type 0 where

@@ -6,7 +6,7 @@ use Prim.Native.Nat.{ℕ, zero, suc, min, _+_, _≤_, _<_}
 use Rattle.polymatroid.specs.Side.{roomBut, plus, minus}
 use Rattle.floor.specs.Floor.{on, place, count}
 use Rattle.floor.specs.Meaning.{Meaning}
-use Rattle.network.specs.Trays.{trays}
+use Rattle.network.specs.Plans.{trays}
 
 -- the start (false) or the end (true) of a path, or a lane with its sign
 pub data State : Type 0 where

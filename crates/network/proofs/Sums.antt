@@ -1,14 +1,10 @@
--- Sums over the numbers below a bound, and what a state gives to a set or takes from it.
+-- What a state of a path gives to a set of lanes, and what it takes from it.
 use mathlib.Core.Bool.{Bool, cond, _&&_}
-use Prim.Native.Nat.{ℕ, zero, suc, _+_}
+use Prim.Native.Nat.{ℕ}
 use Rattle.polymatroid.specs.Sets.{has}
 use Rattle.floor.specs.Floor.{on, place}
 use Rattle.floor.specs.Meaning.{Meaning}
 use Rattle.network.specs.States.{State, Pole, Plus, Minus}
-
-unfoldable pub sumTo : (ℕ → ℕ) → ℕ → ℕ
-sumTo h zero = 0
-sumTo h (suc n) = sumTo h n + h n
 
 -- n trays, where the lane has its end d at station i at a position in X
 abbrev pub partAt : Meaning → ℕ → Bool → ℕ → ℕ → ℕ → ℕ

@@ -1,0 +1,5 @@
+use Rattle.network.proofs.Labelling.{search-finds}
+use Rattle.network.proofs.search_finds.Needs as need
+
+pub returns : need.returns
+returns c = search-finds

@@ -8,10 +8,9 @@ use native.Mathlib.Omega.{arith}
 use Rattle.std.proofs.shelf.Tests.{cases-lt, cases-eq, cases-bool}
 use Rattle.levels.specs.Levels.{Walk, Level}
 use Rattle.floor.specs.Meaning.{Meaning, Lawful}
-use Rattle.network.specs.States.{State, Pole, Plus, Minus, at, amount, laneRoom, laneRoomBut, On-floor, Turn, Step}
+use Rattle.network.specs.States.{State, Pole, Plus, Minus, at, amount, laneRoom, laneRoomBut, On-floor, Turn, Step, lane-number, holder}
 use Rattle.network.specs.Plans.{Fits}
-use Rattle.network.specs.Stages.{lane-number}
-use Rattle.network.specs.Labelling.{holder, Found}
+use Rattle.network.specs.Found.{Found}
 use Rattle.labelling.specs.Rules.{full, inTight, ruled, Carries}
 use Rattle.labelling.specs.Table.{Mark, Ended, label, path}
 use Rattle.labelling.specs.Augmenting.{Augmenting}

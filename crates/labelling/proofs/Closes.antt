@@ -10,11 +10,10 @@ use Rattle.std.proofs.shelf.Tests.{cases-lt, both-ways, eqb-true, eq-eqb, lt-lt
 use Rattle.polymatroid.specs.Finite.{first}
 use Rattle.polymatroid.proofs.Finite.{first-passes, first-before}
 use Rattle.floor.specs.Meaning.{Meaning, Lawful}
-use Rattle.network.specs.States.{State, Pole, Plus, Minus, at, On-floor}
+use Rattle.network.specs.States.{State, Pole, Plus, Minus, at, On-floor, Residual, Open}
 use Rattle.network.specs.Plans.{Fits, Balanced, FitsBy, total}
-use Rattle.network.specs.Labelling.{Residual}
 use Rattle.network.specs.Cuts.{capacity}
-use Rattle.network.specs.Finished.{Labelled-state, Labelled-lane, Opens, Closed}
+use Rattle.network.specs.Finished.{Labelled-state, Labelled-lane, Closed}
 use Rattle.network.proofs.Finished.{finished-best}
 use Rattle.labelling.specs.Rules.{full, ruled}
 use Rattle.labelling.specs.Table.{Mark, Blank, Given, signed, mark, isPlus, isMinus, tableUpTo, Finished, label, At-level}
@@ -134,7 +133,7 @@ module _ (M : Meaning) (laws : Lawful M) (f : ℕ → ℕ) (fits : Fits M f) (l 
   closed-at i x (Plus c) s g = lane-labelled i x c true s (g .ok-to) (from-gives M laws f fits l i x (Plus c) s g)
   closed-at i x (Minus c) s g = lane-labelled i x c false s (g .ok-to) (from-gives M laws f fits l i x (Minus c) s g)
 
-  near-if : (x : State) → On-floor M x → Labelled-state (plusLabelled U) (minusLabelled U) x → Opens M f x → near M f U (at M true x) ≡ true
+  near-if : (x : State) → On-floor M x → Labelled-state (plusLabelled U) (minusLabelled U) x → Open M f x → near M f U (at M true x) ≡ true
   near-if (Pole false) o h p = stock-near M f U
   near-if (Pole true) o h p = absurd p
   near-if (Plus e) o h p =
@@ -147,7 +146,7 @@ module _ (M : Meaning) (laws : Lawful M) (f : ℕ → ℕ) (fits : Fits M f) (l 
       (or-left (isMinus (mark U e) && eqb (M .floor .end false e) (M .floor .end false e)) (isPlus (mark U e) && (not (full M f true e) && eqb (M .floor .end true e) (M .floor .end false e)))
       (and-from (isMinus (mark U e)) (eqb (M .floor .end false e) (M .floor .end false e)) h (eq-eqb (M .floor .end false e) (M .floor .end false e) refl)))
 
-  near-only : (i : ℕ) → near M f U i ≡ true → (x : State) × On-floor M x × Labelled-state (plusLabelled U) (minusLabelled U) x × Opens M f x × (at M true x ≡ i)
+  near-only : (i : ℕ) → near M f U i ≡ true → (x : State) × On-floor M x × Labelled-state (plusLabelled U) (minusLabelled U) x × Open M f x × (at M true x ≡ i)
   unfolding U
   near-only i h =
       elim (near-lane M f U i h) [
@@ -155,7 +154,7 @@ module _ (M : Meaning) (laws : Lawful M) (f : ℕ → ℕ) (fits : Fits M f) (l 
         | inr c ↦ by (c .0) (c .1) (c .2)
       ]
     where
-      by : (e : ℕ) → e < M .floor .lanes → nears M f U i e ≡ true → (x : State) × On-floor M x × Labelled-state (plusLabelled U) (minusLabelled U) x × Opens M f x × (at M true x ≡ i)
+      by : (e : ℕ) → e < M .floor .lanes → nears M f U i e ≡ true → (x : State) × On-floor M x × Labelled-state (plusLabelled U) (minusLabelled U) x × Open M f x × (at M true x ≡ i)
       by e o n =
           elim (or-cases (isMinus (mark U e) && eqb (M .floor .end false e) i) (isPlus (mark U e) && (not (full M f true e) && eqb (M .floor .end true e) i)) n) [
             | inl q ↦

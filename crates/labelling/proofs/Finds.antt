@@ -7,11 +7,10 @@ use Prim.Native.Nat.{ℕ, zero, suc, _-_, _≤_, _<_}
 use native.Mathlib.Omega.{arith}
 use Rattle.std.proofs.shelf.Tests.{cases-lt, both-ways}
 use Rattle.floor.specs.Meaning.{Meaning, Lawful}
-use Rattle.network.specs.States.{State, Pole, Plus, Minus, On-floor}
+use Rattle.network.specs.States.{State, Pole, Plus, Minus, On-floor, lane-number, holder, Residual}
 use Rattle.network.specs.Plans.{Fits}
-use Rattle.network.specs.Stages.{lane-number}
-use Rattle.network.specs.Labelling.{holder, Residual, Level-labels, Found}
-use Rattle.network.proofs.Labelling.{found}
+use Rattle.network.specs.Found.{Level-labels, Found}
+use Rattle.network.proofs.Found.{found}
 use Rattle.labelling.specs.Rules.{ruled, Carries}
 use Rattle.labelling.specs.Table.{Mark, Given, signed, mark, stateOf, nameOf, name, back, path, tableUpTo, Ended, label, At-level, At-level-or-end}
 use Rattle.labelling.proofs.Scan.{none-mk, state-sits}

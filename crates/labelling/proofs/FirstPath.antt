@@ -10,9 +10,8 @@ use Rattle.std.proofs.shelf.Tests.{cases-eq}
 use Rattle.std.proofs.shelf.Lists.{ext-getD}
 use Rattle.levels.specs.Levels.{Walk}
 use Rattle.floor.specs.Meaning.{Meaning, Lawful}
-use Rattle.network.specs.States.{State, Pole, Step}
+use Rattle.network.specs.States.{State, Pole, Step, lane-number}
 use Rattle.network.specs.Plans.{Fits}
-use Rattle.network.specs.Stages.{lane-number}
 use Rattle.network.proofs.Unreached.{no-walk}
 use Rattle.labelling.specs.Rules.{ruled}
 use Rattle.labelling.specs.Table.{Mark, Ended, Finished, label, path}

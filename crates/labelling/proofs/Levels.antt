@@ -6,8 +6,7 @@ use mathlib.Core.List.{List, []}
 use Prim.Native.Nat.{ℕ, zero, suc, _-_, _≤_, _<_}
 use native.Mathlib.Omega.{arith}
 use Rattle.std.proofs.shelf.Tests.{cases-lt}
-use Rattle.network.specs.States.{State, Pole, Plus, Minus}
-use Rattle.network.specs.Stages.{lane-number}
+use Rattle.network.specs.States.{State, Pole, Plus, Minus, lane-number}
 use Rattle.labelling.specs.Table.{Mark, Blank, Given, signed, mark, pass, tableUpTo, At-level}
 use Rattle.labelling.proofs.Scan.{none-mk, cases-mark, Passed, passed-suc, passed-zero}
 

@@ -8,7 +8,7 @@ use Rattle.floor.specs.Meaning.{Meaning, Lawful}
 use Rattle.network.specs.States.{amount, augmented}
 use Rattle.network.specs.Plans.{Fits}
 use Rattle.network.specs.Stages.{Stage}
-use Rattle.network.specs.Labelling.{Found}
+use Rattle.network.specs.Found.{Found}
 use Rattle.labelling.specs.Rules.{ruled}
 use Rattle.labelling.specs.Table.{Mark, Outcome, Ended, Finished, label, path}
 use Rattle.labelling.specs.Augmenting.{along}

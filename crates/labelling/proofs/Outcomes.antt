@@ -9,8 +9,7 @@ use lib.Dec.{ltb}
 use Rattle.std.proofs.shelf.Tests.{cases-lt, both-ways, eqb-true, ltb-true, ltb-false, and-parts, and-from}
 use Rattle.polymatroid.proofs.Finite.{first-passes, first-before}
 use Rattle.levels.proofs.Counting.{pigeonhole-all}
-use Rattle.network.specs.States.{State, Pole}
-use Rattle.network.specs.Stages.{lane-number}
+use Rattle.network.specs.States.{State, Pole, lane-number}
 use Rattle.labelling.specs.Table.{Mark, Given, mark, isAt, stateOf, pass, tableUpTo, endingLane, laneOfLevel, Outcome, Ended, Finished, labelFrom, label, At-level}
 use Rattle.labelling.proofs.Scan.{cases-mark, lane-of}
 use Rattle.labelling.proofs.Levels.{good-tab, mark-up}

@@ -12,7 +12,7 @@ use Rattle.floor.specs.Meaning.{Meaning, Lawful}
 use Rattle.network.specs.States.{State, amount}
 use Rattle.network.specs.Plans.{Fits}
 use Rattle.network.specs.Stages.{Stage}
-use Rattle.network.specs.Labelling.{Found}
+use Rattle.network.specs.Found.{Found}
 
 -- the least of what the N pairs of a path let through
 unfoldable pub lets : Meaning → (ℕ → ℕ) → (ℕ → State) → ℕ → ℕ

@@ -10,8 +10,7 @@ use Rattle.std.proofs.shelf.Tests.{cases-lt}
 use Rattle.polymatroid.specs.Finite.{least}
 use Rattle.polymatroid.proofs.Finite.{least-same-values}
 use Rattle.floor.specs.Meaning.{Meaning}
-use Rattle.network.specs.States.{State, Pole, On-floor, at, applied, augmented}
-use Rattle.network.specs.Labelling.{holder}
+use Rattle.network.specs.States.{State, Pole, On-floor, at, applied, augmented, holder}
 use Rattle.labelling.specs.Rules.{Carries}
 use Rattle.labelling.specs.Augmenting.{Augmenting, along}
 use Rattle.labelling.specs.Amount.{term, leastTerm}

@@ -8,9 +8,8 @@ use lib.Dec.{eqb, ltb}
 use Rattle.std.proofs.shelf.Tests.{cases-bool, both-ways, eq-eqb, ne-eqb, eqb-true, eqb-false, lt-ltb, ltb-true, and-parts, and-from, not-from-false, not-true}
 use Rattle.polymatroid.specs.Side.{room}
 use Rattle.floor.specs.Meaning.{Meaning, Lawful}
-use Rattle.network.specs.States.{State, Pole, Plus, Minus, laneRoom, laneRoomBut, On-floor}
+use Rattle.network.specs.States.{State, Pole, Plus, Minus, laneRoom, laneRoomBut, On-floor, Residual}
 use Rattle.network.specs.Plans.{Fits}
-use Rattle.network.specs.Labelling.{Residual}
 use Rattle.network.proofs.Rooms.{all-is, member-full, member-room, room-member, member-carries, room-less}
 use Rattle.labelling.specs.Rules.{full, inTight, ruled, Carries, Rules-give}
 

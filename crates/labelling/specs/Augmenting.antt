@@ -6,9 +6,7 @@ use Prim.Native.Nat.{ℕ, zero, suc, _≤_, _<_}
 use lib.ListN.{length, getD}
 use Rattle.floor.specs.Floor.{leaving, entering}
 use Rattle.floor.specs.Meaning.{Meaning}
-use Rattle.network.specs.States.{State, Pole, Plus, Minus, On-floor, at}
-use Rattle.network.specs.Stages.{lane-number}
-use Rattle.network.specs.Labelling.{holder}
+use Rattle.network.specs.States.{State, Pole, Plus, Minus, On-floor, at, lane-number, holder}
 use Rattle.labelling.specs.Rules.{full, inTight, Carries}
 
 -- Q 1, .., Q k is a row of k distinct lanes, each + or -, from the stock to the despatch; the start Q 0 stands before it,

@@ -6,6 +6,7 @@ use lib.Dec.{eqb, ltb}
 use Rattle.polymatroid.specs.Finite.{first}
 use Rattle.floor.specs.Floor.{leaving, entering, stock}
 use Rattle.floor.specs.Meaning.{Meaning}
+use Rattle.network.specs.Finished.{without-label}
 use Rattle.labelling.specs.Rules.{full}
 use Rattle.labelling.specs.Table.{Mark, mark, isPlus, isMinus}
 
@@ -27,4 +28,4 @@ near M f t i = eqb (stock (M .floor)) i || ltb (first (nears M f t i) (M .floor 
 
 -- of the lanes from near to far, those without a label count where they leave, the others where they enter
 abbrev pub unlabelled : List Mark → ℕ → Bool
-unlabelled t e = not (plusLabelled t e || minusLabelled t e)
+unlabelled t = without-label (plusLabelled t) (minusLabelled t)

@@ -8,8 +8,7 @@ use Rattle.polymatroid.specs.Side.{room, tightSet}
 use Rattle.floor.specs.Floor.{place, count}
 use Rattle.floor.specs.Meaning.{Meaning, Lawful}
 use Rattle.network.specs.Plans.{trays, Fits}
-use Rattle.network.specs.States.{State, Pole, Plus, Minus, On-floor}
-use Rattle.network.specs.Labelling.{Residual}
+use Rattle.network.specs.States.{State, Pole, Plus, Minus, On-floor, Residual}
 
 -- lane e is full at its end d: the least that is left below the cap of a set with e is 0
 unfoldable pub full : Meaning → (ℕ → ℕ) → Bool → ℕ → Bool

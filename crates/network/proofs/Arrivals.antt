@@ -15,10 +15,10 @@ use Rattle.polymatroid.proofs.Room.{roomBut-full, member-from-room}
 use Rattle.floor.specs.Floor.{on, place, count}
 use Rattle.floor.specs.Meaning.{Meaning, Lawful}
 use Rattle.network.specs.Plans.{trays, Fits}
-use Rattle.network.specs.States.{State, Pole, Plus, Minus, at, laneRoom, laneRoomBut, amount, Step, Path}
+use Rattle.network.specs.States.{State, Pole, Plus, Minus, at, laneRoom, laneRoomBut, amount, Step, Path, Open, Free}
 use Rattle.floor.proofs.Places.{laneAt-place}
 use Rattle.network.proofs.Hits.{hits}
-use Rattle.network.proofs.Visits.{Open, Free, byArrival, byDeparture, open-unless, free-unless, open-free}
+use Rattle.network.proofs.Visits.{byArrival, byDeparture, open-unless, free-unless, open-free}
 use Rattle.network.proofs.Rooms.{tightAt, there, apart, less-is, all-is}
 
 -- the position of a state's lane among those that enter k; none is the count

@@ -9,8 +9,8 @@ use Rattle.std.proofs.shelf.Bits.{mul-add-lt, div-mul-add, mod-mul-add}
 use Rattle.levels.specs.Counting.{Moves}
 use Rattle.levels.proofs.Counting.{pigeonhole-all, few-at-one-length, few-in-all}
 use Rattle.floor.specs.Meaning.{Meaning, Lawful}
-use Rattle.network.specs.States.{State, Pole, Plus, Minus, at, amount, On-floor, Turn, Path}
-use Rattle.network.specs.Stages.{lane-number, Run, Few-share-a-length, Few-stages}
+use Rattle.network.specs.States.{State, Pole, Plus, Minus, at, amount, On-floor, Turn, Path, lane-number}
+use Rattle.network.specs.Stages.{Run, Few-share-a-length, Few-stages}
 use Rattle.network.proofs.Paths.{touches, touch-once}
 use Rattle.network.proofs.Stages.{pairs-differ}
 

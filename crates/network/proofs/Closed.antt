@@ -10,27 +10,13 @@ use Rattle.polymatroid.specs.Side.{In, tightSet}
 use Rattle.floor.specs.Floor.{place, count}
 use Rattle.floor.specs.Meaning.{Meaning, Lawful}
 use Rattle.network.specs.Plans.{trays, Fits}
-use Rattle.network.specs.States.{State, Pole, Plus, Minus, at, laneRoom, On-floor, Turn, Step}
-use Rattle.network.specs.Labelling.{Residual}
-use Rattle.network.specs.Finished.{Labelled-state, Labelled-lane, Opens, Closed}
+use Rattle.network.specs.States.{State, Pole, Plus, Minus, at, laneRoom, On-floor, Turn, Step, Residual, Open, Free}
+use Rattle.network.specs.Finished.{Labelled-state, Labelled-lane, Closed}
 use Rattle.network.proofs.Rooms.{there, tight-at, member-full, member-room, room-member, member-within, member-carries}
 use Rattle.network.proofs.Loads.{minus-carries}
-use Rattle.network.proofs.Visits.{Open, Free, open-unless, open-free}
-use Rattle.network.proofs.Labelling.{turn?}
+use Rattle.network.proofs.Visits.{open-unless, open-free}
+use Rattle.network.proofs.Found.{turn?}
 use Rattle.network.proofs.SpliceIn.{plus-departs}
-
--- open and free, as the labelling has them
-opens-open : (M : Meaning) (f : ℕ → ℕ) (x : State) → Opens M f x → Open M f x
-opens-open M f (Pole false) o = o
-opens-open M f (Pole true) o = o
-opens-open M f (Plus e) o = o
-opens-open M f (Minus e) o = o
-
-open-opens : (M : Meaning) (f : ℕ → ℕ) (x : State) → Open M f x → Opens M f x
-open-opens M f (Pole false) o = o
-open-opens M f (Pole true) o = o
-open-opens M f (Plus e) o = o
-open-opens M f (Minus e) o = o
 
 module _ (M : Meaning) (laws : Lawful M) (f : ℕ → ℕ) (fits : Fits M f) (pl mi near : ℕ → Bool) (cl : Closed M f pl mi near) where
   -- a step from a labelled state leads to a labelled lane
@@ -58,7 +44,7 @@ module _ (M : Meaning) (laws : Lawful M) (f : ℕ → ℕ) (fits : Fits M f) (pl
   near-labels : (y : State) → On-floor M y → near (at M false y) ≡ true → Free M f y → Labelled-lane pl mi y
   near-labels y oy n r =
       let a = cl .near-only (at M false y) n in
-      step-labels (a .0) y (a .2) (open-free M laws f fits (a .0) y (a .1) oy (a .4) (opens-open M f (a .0) (a .3)) r)
+      step-labels (a .0) y (a .2) (open-free M laws f fits (a .0) y (a .1) oy (a .4) (a .3) r)
 
   -- the despatch is far
   pub despatch-far : near (M .floor .pole true) ≡ false
@@ -70,7 +56,7 @@ module _ (M : Meaning) (laws : Lawful M) (f : ℕ → ℕ) (fits : Fits M f) (pl
 
   -- a labelled state that arrives openly makes its station near
   opened-near : (x : State) → On-floor M x → Labelled-state pl mi x → Open M f x → near (at M true x) ≡ true
-  opened-near x o l h = cl .near-if x o l (open-opens M f x h)
+  opened-near x o l h = cl .near-if x o l h
 
   minus-carried : (e : ℕ) → e < M .floor .lanes → mi e ≡ true → 0 < f e
   minus-carried e le m =

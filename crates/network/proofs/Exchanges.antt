@@ -19,10 +19,10 @@ use Rattle.polymatroid.proofs.Room.{room-but, full-tight, tight-full}
 use Rattle.floor.specs.Floor.{place, count}
 use Rattle.floor.specs.Meaning.{Meaning, Lawful}
 use Rattle.network.specs.Plans.{trays, Fits}
-use Rattle.network.specs.States.{State, Pole, Plus, Minus, at, laneRoom, laneRoomBut, amount, On-floor, Path}
+use Rattle.network.specs.States.{State, Pole, Plus, Minus, at, laneRoom, laneRoomBut, amount, On-floor, Path, Open, Free}
 use Rattle.floor.proofs.Places.{laneAt-place}
 use Rattle.network.proofs.Hits.{hits, all-hits}
-use Rattle.network.proofs.Visits.{Open, Free, byArrival}
+use Rattle.network.proofs.Visits.{byArrival}
 use Rattle.network.proofs.Arrivals.{posPlus, posMinus, isFullPair, isOpenPair, exchangeAt, theOpenPair, openUp, openDown, exchangesAt, turn-cond, Full-pair, order, at-full-pair, at-open-pair, open-pair-open, full-pair, caps, trays-fit, full-here, tight-step, exchange-is, member, sound, carried}
 use Rattle.network.proofs.Rooms.{tightAt, there, apart, less-is, all-is}
 

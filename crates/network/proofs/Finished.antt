@@ -11,7 +11,7 @@ use Rattle.floor.specs.Floor.{on, place, count, laneAt}
 use Rattle.floor.specs.Meaning.{Meaning, Lawful}
 use Rattle.network.specs.Plans.{trays, Fits, through, total, Balanced}
 use Rattle.network.specs.Cuts.{setOf, crosses, capacity}
-use Rattle.network.specs.Finished.{Closed, upper, Finished-best}
+use Rattle.network.specs.Finished.{Closed, without-label, Finished-best}
 use Rattle.floor.proofs.Places.{laneAt-there}
 use Rattle.network.proofs.Rooms.{tight-at}
 use Rattle.network.proofs.Hits.{sum-same, sum-none}
@@ -20,26 +20,26 @@ use Rattle.network.proofs.Closed.{despatch-far, stock-near, label-near, back-e
 
 module _ (M : Meaning) (laws : Lawful M) (f : ℕ → ℕ) (fits : Fits M f) (pl mi near : ℕ → Bool) (cl : Closed M f pl mi near) where
   U : ℕ → Bool
-  U e = crosses M near e && upper pl mi e
+  U e = crosses M near e && without-label pl mi e
 
   L : ℕ → Bool
-  L e = crosses M near e && not (upper pl mi e)
+  L e = crosses M near e && not (without-label pl mi e)
 
   -- the unlabelled lanes out of a near station are a tight set
   out-all : (k : ℕ) → k < M .floor .stations → near k ≡ true
-      → Tight (count (M .floor) false k) (M .cap false k) (trays M f false k) (setOf M false k (upper pl mi))
+      → Tight (count (M .floor) false k) (M .cap false k) (trays M f false k) (setOf M false k (without-label pl mi))
   out-all k kin n =
       union-tight (count (M .floor) false k) (M .cap false k) (laws .laws false k kin .0) (trays M f false k) (fits false k kin)
-      (setOf M false k (upper pl mi)) (setOf-below M false k (upper pl mi)) each
+      (setOf M false k (without-label pl mi)) (setOf-below M false k (without-label pl mi)) each
     where
-      each : (p : ℕ) → p < count (M .floor) false k → In (setOf M false k (upper pl mi)) p
+      each : (p : ℕ) → p < count (M .floor) false k → In (setOf M false k (without-label pl mi)) p
           → (Y : ℕ) × Tight (count (M .floor) false k) (M .cap false k) (trays M f false k) Y × In Y p
-          × ((q : ℕ) → q < count (M .floor) false k → In Y q → In (setOf M false k (upper pl mi)) q)
+          × ((q : ℕ) → q < count (M .floor) false k → In Y q → In (setOf M false k (without-label pl mi)) q)
       each p l i =
           let a = laneAt-there (M .floor) false k p l in
           let e : ℕ = laneAt (M .floor) false k p in
           let ke : M .floor .end false e ≡ k = eqb-true (M .floor .end false e) k (a .1) in
-          let r : (pl e || mi e) ≡ false = not-true (pl e || mi e) (sym (has-setOf M false k (upper pl mi) p l) ∙ i) in
+          let r : (pl e || mi e) ≡ false = not-true (pl e || mi e) (sym (has-setOf M false k (without-label pl mi) p l) ∙ i) in
           let t = tight-at M laws f fits false k kin e (a .0) ke (out-full M laws f fits pl mi near cl e (a .0) (ap near ke ∙ n) r) in
           let Y : ℕ = tightSet (count (M .floor) false k) (M .cap false k) (trays M f false k) (place (M .floor) false k e) in (
             Y,
@@ -48,7 +48,7 @@ module _ (M : Meaning) (laws : Lawful M) (f : ℕ → ℕ) (fits : Fits M f) (pl
             (λ q m j.
                 let b = laneAt-there (M .floor) false k q m in
                 let g : ℕ = laneAt (M .floor) false k q in
-                has-setOf M false k (upper pl mi) q m
+                has-setOf M false k (without-label pl mi) q m
                 ∙ not-from-false (pl g || mi g)
                 (out-tight M laws f fits pl mi near cl k e g kin (a .0) (b .0) ke (eqb-true (M .floor .end false g) k (b .1)) n r (ap (has Y) (b .2) ∙ j))),
           )
@@ -60,14 +60,14 @@ module _ (M : Meaning) (laws : Lawful M) (f : ℕ → ℕ) (fits : Fits M f) (pl
   out-cross k kin n =
       let t = out-all k kin n in
       let low = setOf-below M false k U in
-      let mono = cap-mono (count (M .floor) false k) (M .cap false k) (laws .laws false k kin .0) (setOf M false k U) (setOf M false k (upper pl mi)) low
-      (setOf-below M false k (upper pl mi))
+      let mono = cap-mono (count (M .floor) false k) (M .cap false k) (laws .laws false k kin .0) (setOf M false k U) (setOf M false k (without-label pl mi)) low
+      (setOf-below M false k (without-label pl mi))
       (λ p l i.
-      has-setOf M false k (upper pl mi) p l
-      ∙ and-parts (crosses M near (laneAt (M .floor) false k p)) (upper pl mi (laneAt (M .floor) false k p)) (sym (has-setOf M false k U p l) ∙ i) .1) in
-      omega (arith, t .reached, fits false k kin (setOf M false k U) low, load-setOf M false k f U, load-setOf M false k f (upper pl mi), same)
+      has-setOf M false k (without-label pl mi) p l
+      ∙ and-parts (crosses M near (laneAt (M .floor) false k p)) (without-label pl mi (laneAt (M .floor) false k p)) (sym (has-setOf M false k U p l) ∙ i) .1) in
+      omega (arith, t .reached, fits false k kin (setOf M false k U) low, load-setOf M false k f U, load-setOf M false k f (without-label pl mi), same)
     where
-      one : (e : ℕ) → e < M .floor .lanes → (o u x y : Bool) → on (M .floor) false k e ≡ o → upper pl mi e ≡ u → near (M .floor .end false e) ≡ x → near (M .floor .end true e) ≡ y
+      one : (e : ℕ) → e < M .floor .lanes → (o u x y : Bool) → on (M .floor) false k e ≡ o → without-label pl mi e ≡ u → near (M .floor .end false e) ≡ x → near (M .floor .end true e) ≡ y
           → cond (o && ((x && not y) && u)) (f e) 0 ≡ cond (o && u) (f e) 0
       one e l true true true true eo eu ex ey = sym (unlabelled-empty M laws f fits pl mi near cl e l ey (not-true (pl e || mi e) eu))
       one e l true true true false eo eu ex ey = refl
@@ -77,10 +77,10 @@ module _ (M : Meaning) (laws : Lawful M) (f : ℕ → ℕ) (fits : Fits M f) (pl
       one e l true false false y eo eu ex ey = refl
       one e l false u x y eo eu ex ey = refl
 
-      same : through M f U false k ≡ through M f (upper pl mi) false k
+      same : through M f U false k ≡ through M f (without-label pl mi) false k
       same =
-          sum-same (λ e. cond (on (M .floor) false k e && U e) (f e) 0) (λ e. cond (on (M .floor) false k e && upper pl mi e) (f e) 0) (M .floor .lanes)
-          (λ e l. one e l (on (M .floor) false k e) (upper pl mi e) (near (M .floor .end false e)) (near (M .floor .end true e)) refl refl refl refl)
+          sum-same (λ e. cond (on (M .floor) false k e && U e) (f e) 0) (λ e. cond (on (M .floor) false k e && without-label pl mi e) (f e) 0) (M .floor .lanes)
+          (λ e l. one e l (on (M .floor) false k e) (without-label pl mi e) (near (M .floor .end false e)) (near (M .floor .end true e)) refl refl refl refl)
 
   in-cross : (k : ℕ) → k < M .floor .stations → near k ≡ false
       → load (trays M f true k) (count (M .floor) true k) (setOf M true k L) ≡ M .cap true k (setOf M true k L)
@@ -97,7 +97,7 @@ module _ (M : Meaning) (laws : Lawful M) (f : ℕ → ℕ) (fits : Fits M f) (pl
           let e : ℕ = laneAt (M .floor) true k p in
           let ke : M .floor .end true e ≡ k = eqb-true (M .floor .end true e) k (a .1) in
           let y : (pl e || mi e) ≡ true =
-          not-false (pl e || mi e) (not-true (upper pl mi e) (and-parts (crosses M near e) (not (upper pl mi e)) (sym (has-setOf M true k L p l) ∙ i) .1)) in
+          not-false (pl e || mi e) (not-true (without-label pl mi e) (and-parts (crosses M near e) (not (without-label pl mi e)) (sym (has-setOf M true k L p l) ∙ i) .1)) in
           let h = in-holder M laws f fits pl mi near cl k e kin (a .0) ke n y in
           let Y : ℕ = tightSet (count (M .floor) true k) (M .cap true k) (trays M f true k) (place (M .floor) true k (h .0)) in
           let t = tight-at M laws f fits true k kin (h .0) (h .1) (h .2) (in-full M laws f fits pl mi near cl (h .0) (h .1) (ap near (h .2) ∙ n) (h .3)) in (
@@ -110,16 +110,16 @@ module _ (M : Meaning) (laws : Lawful M) (f : ℕ → ℕ) (fits : Fits M f) (pl
                 let kg : M .floor .end true g ≡ k = eqb-true (M .floor .end true g) k (b .1) in
                 let z = in-tight M laws f fits pl mi near cl k (h .0) g kin (h .1) (b .0) (h .2) kg n (h .3) (ap (has Y) (b .2) ∙ j) in
                 has-setOf M true k L q m
-                ∙ and-from (crosses M near g) (not (upper pl mi g))
+                ∙ and-from (crosses M near g) (not (without-label pl mi g))
                 (and-from (near (M .floor .end false g)) (not (near (M .floor .end true g))) (label-near M laws f fits pl mi near cl g (b .0) z) (not-from-false (near (M .floor .end true g)) (ap near kg ∙ n)))
-                (not-from-false (upper pl mi g) (not-from-true (pl g || mi g) z))),
+                (not-from-false (without-label pl mi g) (not-from-true (pl g || mi g) z))),
           )
 
-  total-is : Balanced M f → total M f ≡ capacity M near (upper pl mi)
+  total-is : Balanced M f → total M f ≡ capacity M near (without-label pl mi)
   unfolding capacity U L
   total-is bal =
       let a = crossing M laws near (stock-near M laws f fits pl mi near cl) (despatch-far M laws f fits pl mi near cl) f bal in
-      let b = crossing-parts M laws near (stock-near M laws f fits pl mi near cl) (despatch-far M laws f fits pl mi near cl) f bal (upper pl mi) in
+      let b = crossing-parts M laws near (stock-near M laws f fits pl mi near cl) (despatch-far M laws f fits pl mi near cl) f bal (without-label pl mi) in
       let z = sum-none (λ e. cond (near (M .floor .end true e) && not (near (M .floor .end false e))) (f e) 0) (M .floor .lanes)
       (λ e l. none e l (near (M .floor .end true e)) (near (M .floor .end false e)) refl refl) in
       let c = sum-same (λ i. cond (near i) (load (trays M f false i) (count (M .floor) false i) (setOf M false i U)) 0)
@@ -146,4 +146,4 @@ module _ (M : Meaning) (laws : Lawful M) (f : ℕ → ℕ) (fits : Fits M f) (pl
 pub finished-best : Finished-best
 finished-best M f pl mi near laws fits bal cl =
     let e = total-is M laws f fits pl mi near cl bal in
-    (e, (λ q g b h. omega (arith, cut-bounds M near (upper pl mi) laws (stock-near M laws f fits pl mi near cl) (despatch-far M laws f fits pl mi near cl) q g b h, ap (λ x. q * x) e)))
+    (e, (λ q g b h. omega (arith, cut-bounds M near (without-label pl mi) laws (stock-near M laws f fits pl mi near cl) (despatch-far M laws f fits pl mi near cl) q g b h, ap (λ x. q * x) e)))

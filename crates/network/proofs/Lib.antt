@@ -16,7 +16,7 @@ pub mod Splice
 pub mod Stages
 pub mod Bound
 pub mod Skips
-pub mod Labelling
+pub mod Found
 pub mod Cuts
 pub mod Closed
 pub mod Finished

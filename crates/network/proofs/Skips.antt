@@ -7,10 +7,10 @@ use native.Mathlib.Omega.{arith}
 use Rattle.std.proofs.shelf.Tests.{cases-lt, cases-eq}
 use Rattle.floor.specs.Floor.{place}
 use Rattle.floor.specs.Meaning.{Meaning, Lawful}
-use Rattle.network.specs.States.{State, Pole, Plus, Minus, at, laneRoom, laneRoomBut, amount, On-floor, Step}
+use Rattle.network.specs.States.{State, Pole, Plus, Minus, at, laneRoom, laneRoomBut, amount, On-floor, Step, Free}
 use Rattle.network.specs.Plans.{Fits}
 use Rattle.network.proofs.Rooms.{member-full, member-room, room-member, member-within}
-use Rattle.network.proofs.Visits.{Free, free-unless, open-free}
+use Rattle.network.proofs.Visits.{free-unless, open-free}
 use Rattle.network.proofs.Mirror.{mirror, mirrored, lawful-mirror, fits-mirror, amount-mirror, at-mirror, step-back, ok-mirror}
 
 module _ (M : Meaning) (laws : Lawful M) (f : ℕ → ℕ) (fits : Fits M f) (k : ℕ) (kin : k < M .floor .stations) where

@@ -7,9 +7,8 @@ use Prim.Native.Nat.{ℕ, zero, suc, _+_, _-_, _≤_, _<_}
 use native.Mathlib.Omega.{arith}
 use Rattle.std.proofs.shelf.Tests.{cases-lt, cases-eq}
 use Rattle.floor.specs.Meaning.{Meaning}
-use Rattle.network.specs.States.{State, Pole, Plus, Minus, at, laneRoom, amount, On-floor, Step, augmented}
+use Rattle.network.specs.States.{State, Pole, Plus, Minus, at, laneRoom, amount, On-floor, Step, augmented, Open, Free}
 use Rattle.network.specs.Moves.{Moving, Spliced, Steps-splice}
-use Rattle.network.proofs.Visits.{Open, Free}
 use Rattle.network.proofs.Arrivals.{order}
 use Rattle.network.proofs.Mirror.{mirror, mirrored, back, at-mirror, all-mirror, amount-mirror, step-back}
 use Rattle.network.proofs.Moves.{moving-mirror, walked-mirror}

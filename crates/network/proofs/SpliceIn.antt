@@ -16,11 +16,11 @@ use Rattle.polymatroid.proofs.Room.{member-from-room, full-tight, room-but}
 use Rattle.floor.specs.Floor.{place, count}
 use Rattle.floor.specs.Meaning.{Meaning}
 use Rattle.network.specs.Plans.{trays}
-use Rattle.network.specs.States.{State, Pole, Plus, Minus, at, roomAt, laneRoom, laneRoomBut, amount, On-floor, Step, applied, augmented}
+use Rattle.network.specs.States.{State, Pole, Plus, Minus, at, roomAt, laneRoom, laneRoomBut, amount, On-floor, Step, applied, augmented, Open, Free}
 use Rattle.network.specs.Moves.{Moving, Spliced}
 use Rattle.floor.proofs.Places.{place-apart}
 use Rattle.network.proofs.Paths.{touches, walked-touched, walked-other}
-use Rattle.network.proofs.Visits.{Open, Free, byArrival, byDeparture, open-unless, free-unless, open-free}
+use Rattle.network.proofs.Visits.{byArrival, byDeparture, open-unless, free-unless, open-free}
 use Rattle.network.proofs.Arrivals.{posPlus, posMinus, isOpenPair, theOpenPair, openDown, Full-pair, full-pair, carried, order, at-open-pair, open-pair-open, full-here, caps, trays-fit}
 use Rattle.network.proofs.Exchanges.{trays-at}
 use Rattle.network.proofs.Arrived.{splice-in}

@@ -9,8 +9,8 @@ use Rattle.levels.specs.Levels.{Walk, Level, Straight, Along, Splices}
 use Rattle.levels.proofs.Walks.{join-walk, rest-walk, turned-walk}
 use Rattle.levels.proofs.Levels.{levels-rise, levels-rise-back, numbers-rise}
 use Rattle.floor.specs.Meaning.{Meaning}
-use Rattle.network.specs.States.{State, Pole, Plus, Minus, at, amount, Step}
-use Rattle.network.specs.Stages.{lane-number, Stage, Run, Lengths-rise, Pairs-differ}
+use Rattle.network.specs.States.{State, Pole, Plus, Minus, at, amount, Step, lane-number}
+use Rattle.network.specs.Stages.{Stage, Run, Lengths-rise, Pairs-differ}
 use Rattle.network.proofs.Paths.{step-at, out-of-end}
 use Rattle.network.proofs.Moves.{pair-dies}
 use Rattle.network.proofs.Splice.{steps-splice}

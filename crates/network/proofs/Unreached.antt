@@ -7,11 +7,10 @@ use native.Mathlib.Omega.{arith}
 use Rattle.std.proofs.shelf.Tests.{or-cases}
 use Rattle.levels.specs.Levels.{Walk}
 use Rattle.floor.specs.Meaning.{Meaning, Lawful}
-use Rattle.network.specs.States.{State, Pole, Plus, Minus, On-floor, Turn, Step}
+use Rattle.network.specs.States.{State, Pole, Plus, Minus, On-floor, Turn, Step, holder, Residual}
 use Rattle.network.specs.Plans.{Fits}
-use Rattle.network.specs.Labelling.{holder, Residual}
 use Rattle.network.specs.Finished.{Labelled-state, Labelled-lane, Closed}
-use Rattle.network.proofs.Labelling.{turn?, skip}
+use Rattle.network.proofs.Found.{turn?, skip}
 use Rattle.network.proofs.Closed.{step-labels}
 
 module _ (M : Meaning) (laws : Lawful M) (f : ℕ → ℕ) (fits : Fits M f) (pl mi near : ℕ → Bool) (cl : Closed M f pl mi near) where

@@ -1,6 +1,6 @@
 -- A path at one station: pairs by a full arrival, then at most one open pair, then pairs by a full departure.
 use mathlib.Core.Path.{_≡_, sym}
-use mathlib.Core.Bool.{Bool, true, false, not}
+use mathlib.Core.Bool.{Bool, true, false}
 use mathlib.Core.Logic.{inl, inr, _⊎_}
 use Prim.Native.Nat.{ℕ, _-_, _<_}
 use native.Mathlib.Omega.{arith}
@@ -8,22 +8,9 @@ use lib.Dec.{eqb}
 use Rattle.std.proofs.shelf.Ways.{tells}
 use Rattle.std.proofs.shelf.Tests.{cases-eq}
 use Rattle.floor.specs.Meaning.{Meaning, Lawful}
-use Rattle.network.specs.States.{State, Pole, Plus, Minus, at, laneRoom, amount, On-floor, Turn, Step}
+use Rattle.network.specs.States.{Open, Free, State, Pole, Plus, Minus, at, laneRoom, amount, On-floor, Turn, Step}
 use Rattle.network.specs.Plans.{Fits}
 use Rattle.network.proofs.Rooms.{room-less}
-
--- the arrival does not ask for a lane of its tight set
-abbrev pub Open : Meaning → (ℕ → ℕ) → State → Type 0
-Open M f (Pole false) = Unit {0}
-Open M f (Pole true) = ⊥
-Open M f (Plus e) = 0 < laneRoom M f true e
-Open M f (Minus e) = 0 < f e
-
-abbrev pub Free : Meaning → (ℕ → ℕ) → State → Type 0
-Free M f (Pole false) = ⊥
-Free M f (Pole true) = Unit {0}
-Free M f (Plus e) = 0 < laneRoom M f false e
-Free M f (Minus e) = 0 < f e
 
 -- a pair by a full arrival, and one by a full departure
 abbrev pub byArrival : Meaning → (ℕ → ℕ) → State → State → Bool

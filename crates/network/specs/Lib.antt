@@ -2,6 +2,6 @@ pub mod Plans
 pub mod States
 pub mod Moves
 pub mod Stages
-pub mod Labelling
+pub mod Found
 pub mod Cuts
 pub mod Finished

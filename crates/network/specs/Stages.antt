@@ -5,14 +5,8 @@ use lib.Dec.{eqb}
 use Rattle.levels.specs.Counting.{tally}
 use Rattle.levels.specs.Levels.{Straight, Lowest}
 use Rattle.floor.specs.Meaning.{Meaning}
-use Rattle.network.specs.States.{State, Pole, Plus, Minus, amount, Step, augmented}
+use Rattle.network.specs.States.{lane-number, State, amount, Step, augmented}
 use Rattle.network.specs.Moves.{Moving}
-
--- the number of a state's lane
-abbrev pub lane-number : State → ℕ
-lane-number (Pole b) = 0
-lane-number (Plus e) = e
-lane-number (Minus e) = e
 
 -- a move of n along P, which the pair at q limits
 pub record Stage (M : Meaning) (f : ℕ → ℕ) (P : ℕ → State) (N n q : ℕ) : Type 0 where
@@ -22,6 +16,7 @@ pub record Stage (M : Meaning) (f : ℕ → ℕ) (P : ℕ → State) (N n q : �
   pub index : q < N
   pub critical : amount M f (P q) (P (suc q)) ≡ n
 
+-- T moves one after the other
 pub record Run (M : Meaning) (T : ℕ) : Type 0 where
   pub trays : ℕ → ℕ → ℕ
   pub path : ℕ → ℕ → State
@@ -31,6 +26,7 @@ pub record Run (M : Meaning) (T : ℕ) : Type 0 where
   pub stage : (s : ℕ) → s < T → Stage M (trays s) (path s) (length s) (amt s) (pair s)
   pub next : (s : ℕ) → suc s < T → trays (suc s) ≡ augmented (amt s) (path s) (length s) (trays s)
 
+-- from move to move the paths grow no shorter
 abbrev pub Lengths-rise : Type 0
 Lengths-rise = (M : Meaning) (T : ℕ) (r : Run M T) (s t : ℕ) → s ≤ t → t < T → r .length s ≤ r .length t
 

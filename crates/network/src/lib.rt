@@ -4,7 +4,7 @@
 // Which path a step takes is the matter of the crate labelling.
 ghost use Rattle.network.specs.Moves.{Move-fits, Move-balances, Pair-dies, Steps-splice};
 ghost use Rattle.network.specs.Stages.{Lengths-rise, Pairs-differ, Few-share-a-length, Few-stages};
-ghost use Rattle.network.specs.Labelling.{Search-finds};
+ghost use Rattle.network.specs.Found.{Search-finds};
 ghost use Rattle.network.specs.Cuts.{Cut-bounds};
 ghost use Rattle.network.specs.Finished.{Finished-best};
 

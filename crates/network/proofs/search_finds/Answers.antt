@@ -1,4 +1,4 @@
-use Rattle.network.proofs.Labelling.{search-finds}
+use Rattle.network.proofs.Found.{search-finds}
 use Rattle.network.proofs.search_finds.Needs as need
 
 pub returns : need.returns

@@ -9,10 +9,9 @@ use Rattle.levels.specs.Levels.{Walk, Level, Straight}
 use Rattle.levels.specs.Search.{Steps, Turning}
 use Rattle.levels.proofs.Search.{path-straight, path-lowest, path-in}
 use Rattle.floor.specs.Meaning.{Meaning, Lawful}
-use Rattle.network.specs.States.{State, Pole, Plus, Minus, at, amount, On-floor, Turn, Step}
+use Rattle.network.specs.States.{State, Pole, Plus, Minus, at, amount, On-floor, Turn, Step, lane-number, holder, Residual, Turns}
 use Rattle.network.specs.Plans.{Fits}
-use Rattle.network.specs.Stages.{lane-number}
-use Rattle.network.specs.Labelling.{holder, Residual, Turns, Level-labels, Found, Search-finds}
+use Rattle.network.specs.Found.{Level-labels, Found, Search-finds}
 use Rattle.network.proofs.Skips.{skip-in, skip-out}
 
 -- states are told apart

@@ -13,8 +13,10 @@ use Rattle.network.specs.Plans.{Fits}
 use Rattle.network.specs.Found.{Found}
 use Rattle.labelling.specs.Rules.{full, inTight, ruled, Carries}
 use Rattle.labelling.specs.Table.{Mark, Ended, label, path}
-use Rattle.labelling.specs.Augmenting.{Augmenting}
+use Rattle.labelling.specs.Augmenting.{Augmenting, Residual-path}
+use Rattle.labelling.specs.Theorems.{Augmenting-is-residual}
 use Rattle.network.proofs.Rooms.{room-less}
+use Rattle.network.proofs.Found.{turn-holder}
 use Rattle.labelling.proofs.Rules.{full-some, full-zero, tight-room, room-tight}
 use Rattle.labelling.proofs.Finds.{rules-find}
 
@@ -235,6 +237,44 @@ module _ (M : Meaning) (laws : Lawful M) (f : ℕ → ℕ) (fits : Fits M f) whe
       one-state (Minus e) (Pole false) z o nx ny a b q u v = v refl
       one-state (Minus e) (Plus g) z o nx ny a b q u v = absurd (laws .rules .ends-differ false e o (a ∙ sym b ∙ ap (M .floor .end true) (sym q)))
       one-state (Minus e) (Minus g) z o nx ny a b q u v = ap Minus q
+
+pub augmenting-is-residual : Augmenting-is-residual
+augmenting-is-residual M f Q k laws fits = (
+  λ a. record {
+    begin = a .begin;
+    finish = a .finish;
+    distinct = a .distinct;
+    residual = λ i h.
+        let s = link M laws f fits Q k a i h in
+        let turns : Turn (Q i) (Q (suc i)) → ⊥ = λ t. a .distinct i (suc i) (omega arith) (omega arith) (turn-holder (Q i) (Q (suc i)) t) in
+        record {
+          ok-from = s .ok-from;
+          ok-to = s .ok-to;
+          meet = s .meet;
+          some = elim (s .some) [ inl h ↦ h | inr t ↦ absurd (turns t) ];
+          straight = turns;
+        };
+  },
+  λ r. record {
+    begin = r .begin;
+    finish = r .finish;
+    ok = λ i h. elim (cases-lt i (suc k)) [
+      | inl l ↦ r .residual i (omega arith) .ok-from
+      | inr l ↦ let o : suc k ≡ i = omega arith in subst (λ j. On-floor M (Q j)) o (r .residual k (omega arith) .ok-to)
+    ];
+    distinct = r .distinct;
+    meet = λ i h. r .residual i h .meet;
+    carries = carries-at r;
+    followed = λ i e h q z.
+        follow M laws f fits e (Q (suc i)) (subst (On-floor M) q (r .residual i h .ok-from)) (subst (λ x. 0 < amount M f x (Q (suc i))) q (r .residual i h .some)) z;
+    preceded = λ i e h q z.
+        precede M laws f fits e (Q i) (subst (On-floor M) q (r .residual i h .ok-to)) (subst (λ y. 0 < amount M f (Q i) y) q (r .residual i h .some)) z;
+  },
+)
+  where
+    carries-at : Residual-path M f Q k → (i : ℕ) → i ≤ suc k → Carries f (Q i)
+    carries-at r zero h = subst⁻¹ (Carries f) (r .begin) tt
+    carries-at r (suc i) h = carried M laws f fits (Q i) (Q (suc i)) (r .residual i (omega arith) .some)
 
 -- where two rows are one behind i, the one that was found has the lower number at i, or they are one at i
 first-at : (M : Meaning) (laws : Lawful M) (f : ℕ → ℕ) (fits : Fits M f) (Q : ℕ → State) (k : ℕ) (aug : Augmenting M f Q k)

@@ -17,8 +17,10 @@ use Rattle.floor.specs.Floor.{Floor, Floor-rules, count}
 use Rattle.floor.specs.Meaning.{Meaning}
 use Rattle.network.specs.Plans.{trays, Fits, through, total, Balanced}
 use Rattle.network.specs.States.{State, Pole, Plus, Minus}
-use Rattle.labelling.specs.Steps.{Move, step, made, Follow, madeAll}
-use Rattle.labelling.specs.Worked.{Worked, Works, nth}
+use Rattle.labelling.specs.Steps.{Move, step, labels, made, Follow, madeAll}
+use Rattle.labelling.specs.Near.{near, unlabelled}
+use Rattle.network.specs.Cuts.{capacity}
+use Rattle.labelling.specs.Worked.{Worked, Works, nth, left-by}
 
 -- both ends pass
 unfoldable pub both : (Bool → Bool) → Bool
@@ -200,28 +202,46 @@ follow-holds M f (v ∷ vs) n h =
     let b = follow-holds M (made v f) vs n (a .1) in
     ((makes-is (step M f) v (a .0), b .0), b .1, b .2)
 
+-- ---- the cut
+
+unfoldable pub cut? : Worked → Bool
+cut? w =
+    every (w .meaning .floor .stations) (λ i. eqb (cond (near (w .meaning) (left-by w) (labels (w .meaning) (left-by w)) i) 1 0) (nth (w .near-list) i))
+    && (every (w .meaning .floor .lanes) (λ e. eqb (cond (unlabelled (labels (w .meaning) (left-by w)) e) 0 1) (nth (w .labelled) e))
+    && eqb (capacity (w .meaning) (near (w .meaning) (left-by w) (labels (w .meaning) (left-by w))) (unlabelled (labels (w .meaning) (left-by w)))) (w .carried))
+
 -- ---- all together
 
 unfoldable pub works? : Worked → Bool
 works? w =
     (rules? (w .meaning .floor) && both (laws? (w .meaning)))
     && ((both (fits? (w .meaning) (nth (w .trays))) && balanced? (w .meaning) (nth (w .trays)))
-    && follow? (w .meaning) (nth (w .trays)) (w .moves) (w .carried))
+    && (follow? (w .meaning) (nth (w .trays)) (w .moves) (w .carried) && cut? w))
 
 pub works : (w : Worked) → works? w ≡ true → Works w
-unfolding works?
+unfolding works? cut?
 works w h =
-    let a = and-parts (rules? (w .meaning .floor) && both (laws? (w .meaning))) ((both (fits? (w .meaning) (nth (w .trays))) && balanced? (w .meaning) (nth (w .trays))) && follow? (w .meaning) (nth (w .trays)) (w .moves) (w .carried)) h in
+    let M : Meaning = w .meaning in
+    let a = and-parts (rules? (w .meaning .floor) && both (laws? (w .meaning))) ((both (fits? (w .meaning) (nth (w .trays))) && balanced? (w .meaning) (nth (w .trays))) && (follow? (w .meaning) (nth (w .trays)) (w .moves) (w .carried) && cut? w)) h in
     let b = and-parts (rules? (w .meaning .floor)) (both (laws? (w .meaning))) (a .0) in
-    let c = and-parts (both (fits? (w .meaning) (nth (w .trays))) && balanced? (w .meaning) (nth (w .trays))) (follow? (w .meaning) (nth (w .trays)) (w .moves) (w .carried)) (a .1) in
+    let c = and-parts (both (fits? (w .meaning) (nth (w .trays))) && balanced? (w .meaning) (nth (w .trays))) (follow? (w .meaning) (nth (w .trays)) (w .moves) (w .carried) && cut? w) (a .1) in
     let d = and-parts (both (fits? (w .meaning) (nth (w .trays)))) (balanced? (w .meaning) (nth (w .trays))) (c .0) in
-    let e = follow-holds (w .meaning) (nth (w .trays)) (w .moves) (w .carried) (c .1) in
+    let g = and-parts (follow? (w .meaning) (nth (w .trays)) (w .moves) (w .carried)) (cut? w) (c .1) in
+    let e = follow-holds (w .meaning) (nth (w .trays)) (w .moves) (w .carried) (g .0) in
+    let near? : ℕ → Bool = λ i. eqb (cond (near (w .meaning) (left-by w) (labels (w .meaning) (left-by w)) i) 1 0) (nth (w .near-list) i) in
+    let lane? : ℕ → Bool = λ e. eqb (cond (unlabelled (labels (w .meaning) (left-by w)) e) 0 1) (nth (w .labelled) e) in
+    let carried : ℕ = capacity (w .meaning) (near (w .meaning) (left-by w) (labels (w .meaning) (left-by w))) (unlabelled (labels (w .meaning) (left-by w))) in
+    let k = and-parts (every (w .meaning .floor .stations) near?) (every (w .meaning .floor .lanes) lane? && eqb carried (w .carried)) (g .1) in
+    let l = and-parts (every (w .meaning .floor .lanes) lane?) (eqb carried (w .carried)) (k .1) in
     record {
       lawful = record { rules = rules-hold (w .meaning .floor) (b .0); laws = λ t. laws-hold (w .meaning) t (both-at (laws? (w .meaning)) (b .1) t) };
       feasible = record { within = fits-hold (w .meaning) (nth (w .trays)) (d .0); balanced = balanced-holds (w .meaning) (nth (w .trays)) (d .1) };
       follow = e .0;
       finished = e .1;
       carries = e .2;
+      near-are = λ i m. eqb-true (cond (near (w .meaning) (left-by w) (labels (w .meaning) (left-by w)) i) 1 0) (nth (w .near-list) i) (every-at (w .meaning .floor .stations) near? (k .0) i m);
+      labelled-are = λ j m. eqb-true (cond (unlabelled (labels (w .meaning) (left-by w)) j) 0 1) (nth (w .labelled) j) (every-at (w .meaning .floor .lanes) lane? (l .0) j m);
+      cut = eqb-true carried (w .carried) (l .1);
     }
 
 unfoldable pub all-work? : List Worked → Bool

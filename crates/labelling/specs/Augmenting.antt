@@ -6,7 +6,7 @@ use Prim.Native.Nat.{ℕ, zero, suc, _≤_, _<_}
 use lib.ListN.{length, getD}
 use Rattle.floor.specs.Floor.{leaving, entering}
 use Rattle.floor.specs.Meaning.{Meaning}
-use Rattle.network.specs.States.{State, Pole, Plus, Minus, On-floor, at, lane-number, holder}
+use Rattle.network.specs.States.{State, Pole, Plus, Minus, On-floor, at, lane-number, holder, Residual}
 use Rattle.labelling.specs.Rules.{full, inTight, Carries}
 
 -- Q 1, .., Q k is a row of k distinct lanes, each + or -, from the stock to the despatch; the start Q 0 stands before it,
@@ -25,6 +25,13 @@ pub record Augmenting (M : Meaning) (f : ℕ → ℕ) (Q : ℕ → State) (k : �
       → (g : ℕ) × (Q (suc i) ≡ Minus g) × (inTight M f entering e g ≡ true)
   pub preceded : (i e : ℕ) → i ≤ k → Q (suc i) ≡ Plus e → full M f leaving e ≡ true
       → (g : ℕ) × (Q i ≡ Minus g) × (inTight M f leaving e g ≡ true)
+
+-- the same row as a path of the residual relation through distinct lanes
+pub record Residual-path (M : Meaning) (f : ℕ → ℕ) (Q : ℕ → State) (k : ℕ) : Type 0 where
+  pub begin : Q 0 ≡ Pole false
+  pub finish : Q (suc k) ≡ Pole true
+  pub distinct : (i j : ℕ) → i < j → j ≤ suc k → holder (Q i) ≡ holder (Q j) → ⊥
+  pub residual : (i : ℕ) → i ≤ k → Residual M f (Q i) (Q (suc i))
 
 -- a list of signed lanes, with the start before it and the end after it
 unfoldable pub along : List State → ℕ → State

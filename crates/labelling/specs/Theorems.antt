@@ -9,13 +9,20 @@ use mathlib.Core.Option.{none, some}
 use Rattle.floor.specs.Floor.{stock, despatch}
 use Rattle.floor.specs.Meaning.{Meaning, Lawful}
 use Rattle.network.specs.States.{State, Pole, Minus}
-use Rattle.network.specs.Plans.{Feasible, Balanced, FitsBy, total}
+use Rattle.network.specs.Plans.{Fits, Feasible, Balanced, FitsBy, total}
 use Rattle.network.specs.Cuts.{capacity}
 use Rattle.labelling.specs.Table.{label}
-use Rattle.labelling.specs.Augmenting.{Augments, Before}
+use Rattle.labelling.specs.Augmenting.{Augmenting, Residual-path, Augments, Before}
 use Rattle.labelling.specs.Steps.{Move, step, made, Follow, outcome, labels}
 use Rattle.labelling.specs.Near.{near, unlabelled}
 use Rattle.labelling.specs.Cases.{Case, FullPlus, FullMinus, Opening, ruledBy, Listed}
+
+-- ---- augmenting paths are the paths of the residual relation through distinct lanes
+
+abbrev pub Augmenting-is-residual : Type 0
+Augmenting-is-residual =
+    (M : Meaning) (f : ℕ → ℕ) (Q : ℕ → State) (k : ℕ) → Lawful M → Fits M f
+    → (Augmenting M f Q k → Residual-path M f Q k) × (Residual-path M f Q k → Augmenting M f Q k)
 
 -- ---- a step finds the first shortest path
 

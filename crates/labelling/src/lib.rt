@@ -1,9 +1,15 @@
 // Labelling as the rules give it, the step that it leads to, and why a plan is right: each function's contract is one theorem.
 // specs/Rules, Table, Augmenting, Amount, Steps and Near are the rules, as definitions that compute; specs/Theorems is what
 // they promise. What a move does to a floor is the matter of the crate network.
-ghost use Rattle.labelling.specs.Theorems.{First-shortest-path, Moves-keep-plans-feasible, Moves-are-few, Finished-is-best, Path-missing-when-best, Any-order};
+ghost use Rattle.labelling.specs.Theorems.{Augmenting-is-residual, First-shortest-path, Moves-keep-plans-feasible, Moves-are-few, Finished-is-best, Path-missing-when-best, Any-order};
 ghost use Rattle.labelling.specs.Sweep.{Sweeps-agree};
 ghost use Rattle.labelling.specs.Worked.{Worked-floors};
+
+// Augmenting paths, as the rules word them, are the paths of the residual relation through distinct lanes.
+pub fn augmenting_is_residual()
+    ensures { λ _. ⌜ Augmenting-is-residual ⌝ }
+{
+}
 
 // A step finds the first shortest augmenting path; where it finds none, there is none.
 pub fn first_shortest_path()

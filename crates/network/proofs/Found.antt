@@ -32,7 +32,7 @@ tell (Minus e) (Pole c) = inr (λ e. let z : _≡_ {A = ℕ} 0 1 = cc in omega a
 tell (Minus e) (Plus g) = inr (λ e. let z : _≡_ {A = ℕ} 0 1 = cc in omega arith)
 tell (Minus e) (Minus g) = elim (cases-eq e g) [ inl q ↦ inl (ap Minus q) | inr q ↦ inr (λ r. q (cc)) ]
 
-turn-holder : (x y : State) → Turn x y → holder x ≡ holder y
+pub turn-holder : (x y : State) → Turn x y → holder x ≡ holder y
 turn-holder (Pole b) y t = absurd t
 turn-holder (Plus e) (Pole c) t = absurd t
 turn-holder (Plus e) (Plus g) t = absurd t

@@ -13,3 +13,4 @@ pub mod Layers
 pub mod Grades
 pub mod Groups
 pub mod More
+pub mod Worked

@@ -8,3 +8,4 @@ pub mod Laws
 pub mod Tables
 pub mod Kinds
 pub mod More
+pub mod Worked

@@ -7,6 +7,7 @@ ghost use Rattle.polymatroid.specs.Side.{Tight-sets};
 ghost use Rattle.polymatroid.specs.Room.{Zeroing, Members-by-room};
 ghost use Rattle.polymatroid.specs.Exchange.{Exchanges-keep};
 ghost use Rattle.polymatroid.specs.Critical.{Critical-pair-dies, New-pair-splices};
+ghost use Rattle.polymatroid.specs.Worked.{Worked-tables};
 ghost use Rattle.polymatroid.specs.Tables.{Tables-tested, Tests-decide};
 
 // The lane-by-lane test of a table names the lowest law that the table breaks, or none where it keeps them all.
@@ -60,5 +61,11 @@ pub fn critical_pair_dies()
 // A pair that the exchanges bring about comes from two pairs that stood before.
 pub fn new_pair_splices()
     ensures { λ _. ⌜ New-pair-splices ⌝ }
+{
+}
+
+// On worked tables and grades the definitions give the laws that are broken, and the caps.
+pub fn worked_tables_hold()
+    ensures { λ _. ⌜ Worked-tables ⌝ }
 {
 }

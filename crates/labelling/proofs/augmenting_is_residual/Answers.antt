@@ -1,0 +1,5 @@
+use Rattle.labelling.proofs.Augmenting.{augmenting-is-residual}
+use Rattle.labelling.proofs.augmenting_is_residual.Needs as need
+
+pub returns : need.returns
+returns c = augmenting-is-residual

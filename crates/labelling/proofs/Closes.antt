@@ -16,7 +16,8 @@ use Rattle.network.specs.Cuts.{capacity}
 use Rattle.network.specs.Finished.{Labelled-state, Labelled-lane, Closed}
 use Rattle.network.proofs.Finished.{finished-best}
 use Rattle.labelling.specs.Rules.{full, ruled}
-use Rattle.labelling.specs.Table.{Mark, Blank, Given, signed, mark, isPlus, isMinus, tableUpTo, Finished, label, At-level}
+use Rattle.labelling.specs.Table.{Mark, Blank, Given, signed, mark, isPlus, isMinus, tableUpTo, Finished, label}
+use Rattle.labelling.proofs.Scan.{At-level}
 use Rattle.labelling.specs.Near.{nears, near, plusLabelled, minusLabelled, unlabelled}
 use Rattle.labelling.proofs.Rules.{full-some, some-full}
 use Rattle.labelling.proofs.Outcomes.{Done, Right, label-right}

@@ -12,8 +12,8 @@ use Rattle.network.specs.Plans.{Fits}
 use Rattle.network.specs.Found.{Level-labels, Found}
 use Rattle.network.proofs.Found.{found}
 use Rattle.labelling.specs.Rules.{ruled, Carries}
-use Rattle.labelling.specs.Table.{Mark, Given, signed, mark, stateOf, nameOf, name, back, path, tableUpTo, Ended, label, At-level, At-level-or-end}
-use Rattle.labelling.proofs.Scan.{none-mk, state-sits}
+use Rattle.labelling.specs.Table.{Mark, Given, signed, mark, stateOf, nameOf, name, back, path, tableUpTo, Ended, label}
+use Rattle.labelling.proofs.Scan.{At-level, At-level-or-end, none-mk, state-sits}
 use Rattle.labelling.proofs.Levels.{Good, good-tab, sits-down}
 use Rattle.labelling.proofs.Rules.{rules-give}
 use Rattle.labelling.proofs.Outcomes.{Unended, Ran, Right, label-right}

@@ -7,8 +7,8 @@ use Prim.Native.Nat.{ℕ, zero, suc, _-_, _≤_, _<_}
 use native.Mathlib.Omega.{arith}
 use Rattle.std.proofs.shelf.Tests.{cases-lt}
 use Rattle.network.specs.States.{State, Pole, Plus, Minus, lane-number}
-use Rattle.labelling.specs.Table.{Mark, Blank, Given, signed, mark, pass, tableUpTo, At-level}
-use Rattle.labelling.proofs.Scan.{none-mk, cases-mark, Passed, passed-suc, passed-zero}
+use Rattle.labelling.specs.Table.{Mark, Blank, Given, signed, mark, pass, tableUpTo}
+use Rattle.labelling.proofs.Scan.{At-level, none-mk, cases-mark, Passed, passed-suc, passed-zero}
 
 -- what holds of a table with the levels up to l
 pub record Good (r : State → State → Bool) (m l : ℕ) (t : List Mark) : Type 0 where

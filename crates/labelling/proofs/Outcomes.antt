@@ -10,8 +10,8 @@ use Rattle.std.proofs.shelf.Tests.{cases-lt, both-ways, eqb-true, ltb-true, ltb
 use Rattle.polymatroid.proofs.Finite.{first-passes, first-before}
 use Rattle.levels.proofs.Counting.{pigeonhole-all}
 use Rattle.network.specs.States.{State, Pole, lane-number}
-use Rattle.labelling.specs.Table.{Mark, Given, mark, isAt, stateOf, pass, tableUpTo, endingLane, laneOfLevel, Outcome, Ended, Finished, labelFrom, label, At-level}
-use Rattle.labelling.proofs.Scan.{cases-mark, lane-of}
+use Rattle.labelling.specs.Table.{Mark, Given, mark, isAt, stateOf, pass, tableUpTo, endingLane, laneOfLevel, Outcome, Ended, Finished, labelFrom, label}
+use Rattle.labelling.proofs.Scan.{At-level, cases-mark, lane-of}
 use Rattle.labelling.proofs.Levels.{good-tab, mark-up}
 
 -- no label of level j ends a path

@@ -7,7 +7,21 @@ use Prim.Native.Nat.{ℕ, zero, suc, _+_, _-_, _≤_, _<_}
 use native.Mathlib.Omega.{arith}
 use Rattle.std.proofs.shelf.Tests.{cases-lt, both-ways, eqb-true, eq-eqb}
 use Rattle.network.specs.States.{State, Pole, Plus, Minus, lane-number}
-use Rattle.labelling.specs.Table.{Mark, Blank, Given, signed, mark, isAt, stateOf, give, scanned, listed, pass, At-level}
+use Rattle.labelling.specs.Table.{Mark, Blank, Given, signed, mark, isAt, stateOf, give, scanned, listed, pass}
+
+-- the state has its label at level i
+abbrev pub At-level : List Mark → ℕ → State → Type 0
+At-level t i (Pole false) = i ≡ 0
+At-level t i (Pole true) = ⊥
+At-level t i (Plus e) = (z : State) × (mark t e ≡ Given true z i)
+At-level t i (Minus e) = (z : State) × (mark t e ≡ Given false z i)
+
+-- the same with the end after the l lanes of a path
+abbrev pub At-level-or-end : ℕ → List Mark → ℕ → State → Type 0
+At-level-or-end l t i (Pole false) = i ≡ 0
+At-level-or-end l t i (Pole true) = i ≡ suc l
+At-level-or-end l t i (Plus e) = (z : State) × (mark t e ≡ Given true z i)
+At-level-or-end l t i (Minus e) = (z : State) × (mark t e ≡ Given false z i)
 
 -- the table of a list
 pub listed-at : (h : ℕ → Mark) (n k i : ℕ) → i < n → mark (listed h n k) i ≡ h (k + i)

@@ -89,8 +89,7 @@ unfolding laws?
 laws-hold M d h i l =
     let k : ℕ = count (M .floor) d i in
     let a = and-parts (eqb (broken (count (M .floor) d i) (M .cap d i)) 0) (every (2 ^ (count (M .floor) d i)) (λ X. leb (M .cap d i X) top-cap))
-    (every-at (M .floor .stations) (λ i. eqb (broken (count (M .floor) d i) (M .cap d i)) 0 && every (2 ^ (count (M .floor) d i)) (λ X. leb (M .cap d i X) top-cap)) h i l) in
-    (
+    (every-at (M .floor .stations) (λ i. eqb (broken (count (M .floor) d i) (M .cap d i)) 0 && every (2 ^ (count (M .floor) d i)) (λ X. leb (M .cap d i X) top-cap)) h i l) in (
       named (count (M .floor) d i) (M .cap d i) .kept (eqb-true (broken (count (M .floor) d i) (M .cap d i)) 0 (a .0)),
       λ X m. leb-true (M .cap d i X) top-cap (every-at (2 ^ (count (M .floor) d i)) (λ X. leb (M .cap d i X) top-cap) (a .1) X m),
     )

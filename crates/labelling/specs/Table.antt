@@ -1,5 +1,4 @@
--- The table of labels, level by level.
-use mathlib.Core.Path.{_≡_}
+-- The labelling: a table of labels, made level by level, for any test r of who gives a label to whom; and the path read back.
 use mathlib.Core.Bool.{Bool, true, false, cond, not, _&&_}
 use mathlib.Core.List.{List, [], _∷_}
 use Prim.Native.Nat.{ℕ, zero, suc, _+_, _-_}
@@ -13,6 +12,7 @@ pub data Mark : Type 0 where
   Blank : Mark
   Given : Bool → State → ℕ → Mark
 
+-- lane e with a sign
 abbrev pub signed : Bool → ℕ → State
 signed true e = Plus e
 signed false e = Minus e
@@ -76,6 +76,7 @@ labelFrom r m zero l t = Finished t
 labelFrom r m (suc n) l t =
     cond (ltb (endingLane r m l t) m) (Ended l (endingLane r m l t) t) (cond (ltb (laneOfLevel m l t) m) (labelFrom r m n (suc l) (pass r m l t)) (Finished t))
 
+-- the labelling of m lanes; each level but the last has a lane, so that m + 1 levels suffice
 unfoldable pub label : (State → State → Bool) → ℕ → Outcome
 label r m = labelFrom r m (suc m) 1 (tableUpTo r m 1)
 
@@ -99,21 +100,7 @@ back e t (suc k) = name e t (back e t k)
 unfoldable pub path : ℕ → ℕ → List Mark → ℕ → State
 path l e t i = back e t (suc l - i)
 
--- the state has its label at level i
-abbrev pub At-level : List Mark → ℕ → State → Type 0
-At-level t i (Pole false) = i ≡ 0
-At-level t i (Pole true) = ⊥
-At-level t i (Plus e) = (z : State) × (mark t e ≡ Given true z i)
-At-level t i (Minus e) = (z : State) × (mark t e ≡ Given false z i)
-
--- the same with the end after the l lanes of a path
-abbrev pub At-level-or-end : ℕ → List Mark → ℕ → State → Type 0
-At-level-or-end l t i (Pole false) = i ≡ 0
-At-level-or-end l t i (Pole true) = i ≡ suc l
-At-level-or-end l t i (Plus e) = (z : State) × (mark t e ≡ Given true z i)
-At-level-or-end l t i (Minus e) = (z : State) × (mark t e ≡ Given false z i)
-
--- the lanes with + and those with -
+-- a label with +, and one with -
 abbrev pub isPlus : Mark → Bool
 isPlus Blank = false
 isPlus (Given s x k) = s

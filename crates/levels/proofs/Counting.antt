@@ -85,16 +85,16 @@ few-in-all size mark n m c h =
     omega (
       arith,
       pigeonhole-all (λ i. (size i - 1) * c + mark i) n (c * m)
-      (λ i l. mul-add-lt (size i - 1) c (mark i) m (omega (arith, h .some i l, h .most i l)) (h .below i l))
-      (λ i j l k e.
-      let li : i < n = omega arith in
-      let ei = div-mul-add (size i - 1) c (mark i) (h .below i li) in
-      let ej = div-mul-add (size j - 1) c (mark j) (h .below j k) in
-      let fi = mod-mul-add (size i - 1) c (mark i) (h .below i li) in
-      let fj = mod-mul-add (size j - 1) c (mark j) (h .below j k) in
-      let a = h .some i li in
-      let b = h .some j k in
-      let q : size i - 1 ≡ size j - 1 = sym ei ∙ ap (λ x. x / c) e ∙ ej in
-      let r : mark i ≡ mark j = sym fi ∙ ap (λ x. x % c) e ∙ fj in
-      h .differ i j l k (omega arith) r),
+          (λ i l. mul-add-lt (size i - 1) c (mark i) m (omega (arith, h .some i l, h .most i l)) (h .below i l))
+          (λ i j l k e.
+          let li : i < n = omega arith in
+          let ei = div-mul-add (size i - 1) c (mark i) (h .below i li) in
+          let ej = div-mul-add (size j - 1) c (mark j) (h .below j k) in
+          let fi = mod-mul-add (size i - 1) c (mark i) (h .below i li) in
+          let fj = mod-mul-add (size j - 1) c (mark j) (h .below j k) in
+          let a = h .some i li in
+          let b = h .some j k in
+          let q : size i - 1 ≡ size j - 1 = sym ei ∙ ap (λ x. x / c) e ∙ ej in
+          let r : mark i ≡ mark j = sym fi ∙ ap (λ x. x % c) e ∙ fj in
+          h .differ i j l k (omega arith) r),
     )

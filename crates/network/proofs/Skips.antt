@@ -19,8 +19,7 @@ module _ (M : Meaning) (laws : Lawful M) (f : ℕ → ℕ) (fits : Fits M f) (k 
       → (laneRoom M f true e ≡ 0) × ((g : ℕ) → g < M .floor .lanes → M .floor .end true g ≡ k → 0 < laneRoomBut M f true e g → 0 < f g → Step M f (Plus h) (Minus g))
   full-on h e lh le kh ke z r =
       let i = room-member M laws f fits true k kin h e lh kh z r in
-      let ze = member-full M laws f fits true k kin h lh kh z e ke i in
-      (
+      let ze = member-full M laws f fits true k kin h lh kh z e ke i in (
         ze,
         (λ g lg kg q c. record {
           ok-from = lh;

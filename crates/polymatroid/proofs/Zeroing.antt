@@ -89,8 +89,7 @@ zeroing k cap w caps fits e g le ne = omega (arith, no-more k cap w caps fits g 
 
 pub members-by-room : Members-by-room
 members-by-room k cap w caps fits e g le ne full =
-    let z = zeroing k cap w caps fits e g le ne in
-    (
+    let z = zeroing k cap w caps fits e g le ne in (
       λ m. omega (arith, roomBut-full k cap caps w fits e g le ne m),
       λ r. member-from-room k cap caps w fits e g le full (omega arith),
     )

@@ -1,7 +1,7 @@
 -- Moves one after another: their lengths never fall, and they are few.
 use mathlib.Core.Path.{_≡_, refl, sym, ap, subst, subst⁻¹, _∙_}
 use mathlib.Core.Bool.{Bool, false, cond}
-use mathlib.Core.List.{List, [], _∷_}
+use mathlib.Core.List.{List, [], _∷_, _++_}
 use mathlib.Core.Option.{some}
 use Prim.Native.Nat.{ℕ, zero, suc, _+_, _-_, _≤_, _<_}
 use native.Mathlib.Omega.{arith}
@@ -11,18 +11,18 @@ use Rattle.levels.specs.Counting.{tally}
 use Rattle.levels.proofs.Counting.{tally-same, tally-first}
 use Rattle.floor.specs.Meaning.{Meaning, Lawful}
 use Rattle.network.specs.States.{State, Pole, augmented}
-use Rattle.network.specs.Plans.{Fits}
+use Rattle.network.specs.Plans.{Feasible, Fits}
 use Rattle.network.specs.Stages.{Stage, Run}
 use Rattle.network.proofs.Stages.{lengths-rise}
 use Rattle.network.proofs.Bound.{few-share-a-length, few-stages}
 use Rattle.labelling.specs.Rules.{ruled}
 use Rattle.labelling.specs.Table.{Mark, Outcome, Ended, Finished, label, path}
-use Rattle.labelling.specs.Steps.{Move, step, made, Follow}
+use Rattle.labelling.specs.Steps.{Move, step, made, Follow, madeAll}
 use Rattle.labelling.specs.Theorems.{how-many, lanes-at, Moves-are-few}
 use Rattle.labelling.proofs.Pairs.{lets, tightest}
 use Rattle.labelling.proofs.Rows.{row-length}
 use Rattle.labelling.proofs.Made.{moveAlong, step-ended, made-is, stage-is}
-use Rattle.labelling.proofs.Moving.{step-fits}
+use Rattle.labelling.proofs.Moving.{step-fits, moves-keep-plans-feasible}
 
 -- what a stage needs of an outcome
 pathOf : Outcome → ℕ → State
@@ -124,3 +124,15 @@ moves-are-few M f vs laws ok follow = record {
       omega (arith, a, b, few-share-a-length M (length vs) (run M laws f (ok .within) vs follow) k);
   in-all = omega (arith, few-stages M (length vs) (run M laws f (ok .within) vs follow));
 }
+
+-- the trays after them are a plan again
+pub follow-feasible : (M : Meaning) → Lawful M → (vs : List Move) (f : ℕ → ℕ) → Feasible M f → Follow M f vs → Feasible M (madeAll vs f)
+unfolding madeAll
+follow-feasible M laws [] f ok h = ok
+follow-feasible M laws (v ∷ vs) f ok h = follow-feasible M laws vs (made v f) (moves-keep-plans-feasible M f v laws ok (h .0) .feasible) (h .1)
+
+-- one move more
+pub follow-more : (M : Meaning) (vs : List Move) (f : ℕ → ℕ) (v : Move) → Follow M f vs → step M (madeAll vs f) ≡ some v → Follow M f (vs ++ v ∷ [])
+unfolding madeAll
+follow-more M [] f v h o = (o, tt)
+follow-more M (u ∷ vs) f v h o = (h .0, follow-more M vs (made u f) v (h .1) o)

@@ -4,7 +4,7 @@
 // It holds theorems and no code of the planner: each function's contract is one theorem.
 ghost use Rattle.polymatroid.specs.Sets.{Bits-agree};
 ghost use Rattle.polymatroid.specs.Side.{Tight-sets};
-ghost use Rattle.polymatroid.specs.Room.{Zeroing, Members-by-room};
+ghost use Rattle.polymatroid.specs.Room.{Uncrossing, Zeroing, Members-by-room};
 ghost use Rattle.polymatroid.specs.Exchange.{Exchanges-keep};
 ghost use Rattle.polymatroid.specs.Critical.{Critical-pair-dies, New-pair-splices};
 ghost use Rattle.polymatroid.specs.Worked.{Worked-tables};
@@ -24,6 +24,12 @@ pub fn tests_decide()
 pub fn codes_are_sets()
     ensures { λ _. ⌜ Bits-agree ⌝ }
 {}
+
+// A set crossed with a tight set has no more left below its cap, nor has what the two make.
+pub fn uncrossing()
+    ensures { λ _. ⌜ Uncrossing ⌝ }
+{
+}
 
 // Tight sets are closed under union and intersection; a full position has a smallest one, whose other members carry trays.
 pub fn tight_sets()

@@ -6,6 +6,7 @@ pub mod Finds
 pub mod Closes
 pub mod Pairs
 pub mod Amounts
+pub mod Residual
 pub mod Augmenting
 pub mod Rows
 pub mod Made

@@ -1,4 +1,4 @@
-use Rattle.labelling.proofs.Augmenting.{augmenting-is-residual}
+use Rattle.labelling.proofs.Residual.{augmenting-is-residual}
 use Rattle.labelling.proofs.augmenting_is_residual.Needs as need
 
 pub returns : need.returns

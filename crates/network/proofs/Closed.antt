@@ -6,13 +6,13 @@ use Prim.Native.Nat.{ℕ, _+_, _<_}
 use native.Mathlib.Omega.{arith}
 use Rattle.std.proofs.shelf.Tests.{cases-lt, cases-bool, cases-eq, both-ways, or-left, or-right, or-cases}
 use Rattle.polymatroid.specs.Sets.{has}
-use Rattle.polymatroid.specs.Side.{In, tightSet}
-use Rattle.floor.specs.Floor.{place, count}
+use Rattle.polymatroid.specs.Side.{In}
+use Rattle.floor.specs.Floor.{place}
 use Rattle.floor.specs.Meaning.{Meaning, Lawful}
-use Rattle.network.specs.Plans.{trays, Fits}
+use Rattle.network.specs.Plans.{Fits}
 use Rattle.network.specs.States.{State, Pole, Plus, Minus, at, laneRoom, On-floor, Turn, Step, Residual, Open, Free}
 use Rattle.network.specs.Finished.{Labelled-state, Labelled-lane, Closed}
-use Rattle.network.proofs.Rooms.{there, tight-at, member-full, member-room, room-member, member-within, member-carries}
+use Rattle.network.proofs.Rooms.{tightAt, there, tight-at, member-full, member-room, room-member, member-within, member-carries}
 use Rattle.network.proofs.Loads.{minus-carries}
 use Rattle.network.proofs.Visits.{open-unless, open-free}
 use Rattle.network.proofs.Found.{turn?}
@@ -97,7 +97,7 @@ module _ (M : Meaning) (laws : Lawful M) (f : ℕ → ℕ) (fits : Fits M f) (pl
 
   -- no - lane is in the tight set of an unlabelled lane out of the station that it leaves
   no-minus : (k e h : ℕ) → k < M .floor .stations → e < M .floor .lanes → h < M .floor .lanes → M .floor .end false e ≡ k → M .floor .end false h ≡ k → (pl e || mi e) ≡ false → mi h ≡ true
-      → In (tightSet (count (M .floor) false k) (M .cap false k) (trays M f false k) (place (M .floor) false k e)) (place (M .floor) false k h) → ⊥
+      → In (tightAt M f false k e) (place (M .floor) false k h) → ⊥
   no-minus k e h kin le lh ke kh r m i =
       let ne : e ≡ h → ⊥ = λ q. both-ways (pl e || mi e) r (or-right (pl e) (mi e) (ap mi q ∙ m)) in
       let room′ = member-room M laws f fits false k kin e h le ke kh ne i in
@@ -106,7 +106,7 @@ module _ (M : Meaning) (laws : Lawful M) (f : ℕ → ℕ) (fits : Fits M f) (pl
       (cl .closed (Minus h) (Plus e) m (record { ok-from = lh; ok-to = le; meet = kh ∙ sym ke; some = omega arith; straight = λ q. ne (sym q) }))
 
   pub out-tight : (k e g : ℕ) → k < M .floor .stations → e < M .floor .lanes → g < M .floor .lanes → M .floor .end false e ≡ k → M .floor .end false g ≡ k → near k ≡ true → (pl e || mi e) ≡ false
-      → In (tightSet (count (M .floor) false k) (M .cap false k) (trays M f false k) (place (M .floor) false k e)) (place (M .floor) false k g) → (pl g || mi g) ≡ false
+      → In (tightAt M f false k e) (place (M .floor) false k g) → (pl g || mi g) ≡ false
   out-tight k e g kin le lg ke kg n r i =
       elim (cases-bool (pl g || mi g)) [
         | inl y ↦
@@ -141,7 +141,7 @@ module _ (M : Meaning) (laws : Lawful M) (f : ℕ → ℕ) (fits : Fits M f) (pl
       [ inl h ↦ absurd (both-ways (near (M .floor .end true e)) n (opened-near (Plus e) le p h)) | inr h ↦ omega arith ]
 
   pub in-tight : (k e g : ℕ) → k < M .floor .stations → e < M .floor .lanes → g < M .floor .lanes → M .floor .end true e ≡ k → M .floor .end true g ≡ k → near k ≡ false → pl e ≡ true
-      → In (tightSet (count (M .floor) true k) (M .cap true k) (trays M f true k) (place (M .floor) true k e)) (place (M .floor) true k g) → (pl g || mi g) ≡ true
+      → In (tightAt M f true k e) (place (M .floor) true k g) → (pl g || mi g) ≡ true
   in-tight k e g kin le lg ke kg n p i =
       elim (cases-eq e g) [
         | inl q ↦ or-left (pl g) (mi g) (ap pl (sym q) ∙ p)
@@ -155,7 +155,7 @@ module _ (M : Meaning) (laws : Lawful M) (f : ℕ → ℕ) (fits : Fits M f) (pl
   -- the full + lane whose tight set a labelled lane into a far station is in
   pub in-holder : (k e : ℕ) → k < M .floor .stations → e < M .floor .lanes → M .floor .end true e ≡ k → near k ≡ false → (pl e || mi e) ≡ true
       → (h : ℕ) × (h < M .floor .lanes) × (M .floor .end true h ≡ k) × (pl h ≡ true)
-      × In (tightSet (count (M .floor) true k) (M .cap true k) (trays M f true k) (place (M .floor) true k h)) (place (M .floor) true k e)
+      × In (tightAt M f true k h) (place (M .floor) true k e)
   in-holder k e kin le ke n y =
       elim (or-cases (pl e) (mi e) y) [
         | inl p ↦ (e, le, ke, p, tight-at M laws f fits true k kin e le ke (in-full e le (ap near ke ∙ n) p) .1)
@@ -166,7 +166,7 @@ module _ (M : Meaning) (laws : Lawful M) (f : ℕ → ℕ) (fits : Fits M f) (pl
     where
       by : (x : State) → Labelled-state pl mi x → Residual M f x (Minus e)
           → (h : ℕ) × (h < M .floor .lanes) × (M .floor .end true h ≡ k) × (pl h ≡ true)
-          × In (tightSet (count (M .floor) true k) (M .cap true k) (trays M f true k) (place (M .floor) true k h)) (place (M .floor) true k e)
+          × In (tightAt M f true k h) (place (M .floor) true k e)
       by (Pole b) l c = absurd (omega (arith, c .some))
       by (Plus h) l c =
           let kh : M .floor .end true h ≡ k = c .meet ∙ ke in (

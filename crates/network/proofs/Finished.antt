@@ -5,15 +5,15 @@ use Prim.Native.Nat.{ℕ, _*_, _<_}
 use native.Mathlib.Omega.{arith}
 use Rattle.std.proofs.shelf.Tests.{both-ways, eqb-true, and-parts, and-from, not-from-true, not-from-false, not-true, not-false}
 use Rattle.polymatroid.specs.Sets.{has}
-use Rattle.polymatroid.specs.Side.{load, In, Tight, tightSet}
+use Rattle.polymatroid.specs.Side.{load, In, Tight}
 use Rattle.polymatroid.proofs.Unions.{cap-mono, union-tight}
-use Rattle.floor.specs.Floor.{on, place, count, laneAt}
+use Rattle.floor.specs.Floor.{on, count, laneAt}
 use Rattle.floor.specs.Meaning.{Meaning, Lawful}
 use Rattle.network.specs.Plans.{trays, Fits, through, total, Balanced}
 use Rattle.network.specs.Cuts.{setOf, crosses, capacity}
 use Rattle.network.specs.Finished.{Closed, without-label, Finished-best}
 use Rattle.floor.proofs.Places.{laneAt-there}
-use Rattle.network.proofs.Rooms.{tight-at}
+use Rattle.network.proofs.Rooms.{tightAt, tight-at}
 use Rattle.network.proofs.Hits.{sum-same, sum-none}
 use Rattle.network.proofs.Cuts.{setOf-below, has-setOf, load-setOf, crossing, crossing-parts, cut-bounds}
 use Rattle.network.proofs.Closed.{despatch-far, stock-near, label-near, back-empty, unlabelled-empty, out-full, out-tight, in-full, in-tight, in-holder}
@@ -41,7 +41,7 @@ module _ (M : Meaning) (laws : Lawful M) (f : ℕ → ℕ) (fits : Fits M f) (pl
           let ke : M .floor .end false e ≡ k = eqb-true (M .floor .end false e) k (a .1) in
           let r : (pl e || mi e) ≡ false = not-true (pl e || mi e) (sym (has-setOf M false k (without-label pl mi) p l) ∙ i) in
           let t = tight-at M laws f fits false k kin e (a .0) ke (out-full M laws f fits pl mi near cl e (a .0) (ap near ke ∙ n) r) in
-          let Y : ℕ = tightSet (count (M .floor) false k) (M .cap false k) (trays M f false k) (place (M .floor) false k e) in (
+          let Y : ℕ = tightAt M f false k e in (
             Y,
             t .0,
             ap (has Y) (sym (a .2)) ∙ t .1,
@@ -99,7 +99,7 @@ module _ (M : Meaning) (laws : Lawful M) (f : ℕ → ℕ) (fits : Fits M f) (pl
           let y : (pl e || mi e) ≡ true =
           not-false (pl e || mi e) (not-true (without-label pl mi e) (and-parts (crosses M near e) (not (without-label pl mi e)) (sym (has-setOf M true k L p l) ∙ i) .1)) in
           let h = in-holder M laws f fits pl mi near cl k e kin (a .0) ke n y in
-          let Y : ℕ = tightSet (count (M .floor) true k) (M .cap true k) (trays M f true k) (place (M .floor) true k (h .0)) in
+          let Y : ℕ = tightAt M f true k (h .0) in
           let t = tight-at M laws f fits true k kin (h .0) (h .1) (h .2) (in-full M laws f fits pl mi near cl (h .0) (h .1) (ap near (h .2) ∙ n) (h .3)) in (
             Y,
             t .0,

@@ -8,7 +8,7 @@ use lib.Dec.{ltb}
 use Rattle.std.proofs.shelf.Ways.{tells}
 use Rattle.std.proofs.shelf.Tests.{cases-lt, cases-eq, both-ways, eq-eqb, eqb-true, le-ltb, lt-ltb}
 use Rattle.polymatroid.specs.Finite.{first}
-use Rattle.polymatroid.specs.Side.{roomBut, tightSet, plus, minus}
+use Rattle.polymatroid.specs.Side.{roomBut, plus, minus}
 use Rattle.polymatroid.specs.Critical.{Pairs}
 use Rattle.polymatroid.proofs.Finite.{first-passes, first-before}
 use Rattle.polymatroid.proofs.Side.{tightSet-carries}
@@ -24,7 +24,7 @@ use Rattle.network.proofs.Visits.{byArrival, byDeparture, open-unless, free-un
 use Rattle.network.proofs.Arrivals.{posPlus, posMinus, isOpenPair, theOpenPair, openDown, Full-pair, full-pair, carried, order, at-open-pair, open-pair-open, full-here, caps, trays-fit}
 use Rattle.network.proofs.Exchanges.{trays-at}
 use Rattle.network.proofs.Arrived.{splice-in}
-use Rattle.network.proofs.Rooms.{there, room-is, less-is, all-is}
+use Rattle.network.proofs.Rooms.{tightAt, there, room-is, less-is, all-is}
 
 -- the tests that a + lane fails
 pub plus-arrives : (M : Meaning) (f : ℕ → ℕ) (e : ℕ) (y : State) → byDeparture M f (Plus e) y ≡ false
@@ -191,7 +191,7 @@ module _ (M : Meaning) (f : ℕ → ℕ) (P : ℕ → State) (N n : ℕ) (m : Mo
         let i = member-from-room (count (M .floor) true k) (M .cap true k) c (trays M f true k) t (place (M .floor) true k e) (place (M .floor) true k g) pe fe h in
         let y = full-tight (count (M .floor) true k) (M .cap true k) c (trays M f true k) t (place (M .floor) true k e) pe fe in
         let r = tightSet-carries (count (M .floor) true k) (M .cap true k) c (trays M f true k) t (place (M .floor) true k e) (place (M .floor) true k g)
-        (tightSet (count (M .floor) true k) (M .cap true k) (trays M f true k) (place (M .floor) true k e)) pe pg (y .0) (y .1) i
+        (tightAt M f true k e) pe pg (y .0) (y .1) i
         (λ q. ne (sym (place-apart (M .floor) true k g e (eq-eqb (M .floor .end true g) k kg) (eq-eqb (M .floor .end true e) k ke) q))) in
         omega (arith, trays-at M (m .laws) f (m .fits) P N (m .path) k kin g lg kg)
 

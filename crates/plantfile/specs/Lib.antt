@@ -3,4 +3,5 @@ pub mod Parts
 pub mod Told
 pub mod Content
 pub mod Answers
+pub mod Steps
 pub mod Promise

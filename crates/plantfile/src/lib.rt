@@ -2,4 +2,5 @@ mod file_plant;
 mod framing;
 mod limits;
 mod questions;
+mod reading;
 mod records;

@@ -22,6 +22,14 @@ pub fn contains(set: usize, position: usize) -> bool
 }
 
 // stub
+pub fn check_limit(limit: Limit, width: usize, at: usize) -> Result<(), FloorFault>
+    requires { ⌜ width ≤ 8 ⌝ }
+    ensures { λ r. ⌜ r ≡ allowed (limit-read width at (limit .entry)) ⌝ }
+{
+    Ok(())
+}
+
+// stub
 pub fn cap_of(limit: Limit, own: &[u32], set: usize) -> u32
     requires keeps { ⌜ limit-keeps (length (now own)) (told limit) ≡ true ⌝ }
     requires narrow { ⌜ length (now own) ≤ 8 ⌝ }

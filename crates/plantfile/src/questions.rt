@@ -21,10 +21,10 @@ use plantformat::Lane;
 
 // The lanes of a side: their numbers by position, and how many there are.
 #[derive(Clone, Copy)]
-struct SideLanes {
-    side: usize,
-    numbers: [usize; MOST_ON_SIDE],
-    count: usize,
+pub(crate) struct SideLanes {
+    pub(crate) side: usize,
+    pub(crate) numbers: [usize; MOST_ON_SIDE],
+    pub(crate) count: usize,
 }
 
 // The station at an end of a lane.
@@ -35,7 +35,7 @@ fn lane_end(lane: Lane, entering: bool) -> usize
 }
 
 // The side that a limit is for.
-fn limit_side(limit: Limit) -> usize
+pub(crate) fn limit_side(limit: Limit) -> usize
     ensures { λ r. ⌜ r ≡ side-of (told (limit .entry)) ⌝ }
 {
     match limit {
@@ -47,7 +47,7 @@ fn limit_side(limit: Limit) -> usize
 
 impl<'a> FilePlant<'a> {
     // The lanes of a side, in lane order.
-    fn lanes_on(&self, side: usize) -> SideLanes
+    pub(crate) fn lanes_on(&self, side: usize) -> SideLanes
         requires { ⌜ side < 2 * now self .head .stations ⌝ }
         ensures side { λ r. ⌜ r .side ≡ side ⌝ }
         ensures lists { λ r. ⌜ Lists (file-meaning (now (self .entry)) .floor) r ⌝ }
@@ -65,7 +65,7 @@ impl<'a> FilePlant<'a> {
     }
 
     // The limit of a side, if it has one.
-    fn limit_of(&self, side: usize) -> Option<Limit<'a>>
+    pub(crate) fn limit_of(&self, side: usize) -> Option<Limit<'a>>
         ensures { λ r. ⌜ limit-seen r ≡ limit-of side (map told (vec-items (now (self .entry) .limits))) ⌝ }
     {
         for limit in self.limits.iter() {

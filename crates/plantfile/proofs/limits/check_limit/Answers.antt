@@ -1,0 +1,4 @@
+use Rattle.plantfile.proofs.limits.check_limit.Needs as need
+
+pub returns : need.returns
+returns c = ?

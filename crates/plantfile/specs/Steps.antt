@@ -1,0 +1,49 @@
+-- One record more, as the definitions of the format see it.
+use mathlib.Core.Path.{_≡_}
+use mathlib.Core.Bool.{Bool, true}
+use mathlib.Core.List.{List, [], _∷_, _++_}
+use Prim.Native.Nat.{ℕ, _*_, _<_}
+use Rattle.std.specs.declared.result.Result.{Result}
+use Rattle.std.specs.declared.result.Result.the-variants.{Ok, Err}
+use Rattle.plantformat.specs.declared.FloorFault.{FloorFault}
+use Rattle.plantformat.specs.declared.FloorFault.the-variants as flo
+use Rattle.plantformat.specs.Rules.{lane-ranged, keeps}
+use Rattle.plantformat.specs.Judge.{onward, Part, a-lane, a-table, a-groups, a-grades, Draft, draft, recorded, placed, lanes-may-come}
+use Rattle.plantfile.specs.Parts.{record-part}
+use Rattle.plantfile.specs.Told.{told}
+use Rattle.plantfile.specs.declared.reading.Stop.{Stop}
+use Rattle.plantfile.specs.declared.reading.Stop.the-variants.{Fault, Memory}
+use Rattle.plantfile.specs.declared.records.Next.{Next}
+use Rattle.plantfile.specs.declared.records.Record as code
+use Rattle.plantfile.specs.declared.records.Record.the-variants as record-of
+
+-- the numbers of a record that the record layer has looked at are in their ranges, on a floor of n stations
+abbrev pub Ranged : ℕ → Part → Type 0
+Ranged n (a-lane l) = lane-ranged n l ≡ true
+Ranged n (a-table s b) = s < 2 * n
+Ranged n (a-groups s g b) = s < 2 * n
+Ranged n (a-grades s b) = s < 2 * n
+
+-- a record that may be added, with the bytes after it
+abbrev pub next-judged : Draft → ℕ → List ℕ → Result (Part × List ℕ) FloorFault
+next-judged d at bs =
+    onward flo.Record (recorded (lanes-may-come d) (d .head .stations) at bs) (λ p. onward (λ e. e) (placed d at (p .0)) (λ _. Ok p))
+
+abbrev pub next-told : Result Next FloorFault → Result (Part × List ℕ) FloorFault
+next-told (Ok n) = Ok (record-part (n .record), n .rest .now)
+next-told (Err e) = Err e
+
+-- what has been read, with one record more
+abbrev pub grown : Draft → code.Record → Draft
+grown d (record-of.Lane l) = draft (d .head) (d .lanes ++ l ∷ []) (d .limits)
+grown d (record-of.Limit l) = draft (d .head) (d .lanes) (d .limits ++ told l ∷ [])
+
+-- what has been read keeps the rules
+abbrev pub keeps-draft : Draft → Bool
+keeps-draft d = keeps (d .head) (d .lanes) (d .limits)
+
+-- a record was added; or memory was wanting, and nothing changed
+abbrev pub Added : Draft → code.Record → Draft → Result (Unit {0}) Stop → Type 0
+Added d r e (Ok _) = e ≡ grown d r
+Added d r e (Err (Fault f)) = ⊥
+Added d r e (Err Memory) = e ≡ d

@@ -1,0 +1,142 @@
+// Reading a file record by record into a plant.
+ghost use mathlib.Core.Path.{_≡_};
+ghost use mathlib.Core.Bool.{true};
+ghost use mathlib.Core.List.{map};
+ghost use Prim.Native.Nat.{_*_, _<_};
+ghost use lib.Dec.{leb};
+ghost use Rattle.std.specs.Of.Vec.{vec-items};
+ghost use Rattle.floor.specs.Numbers.{most-on-side};
+ghost use Rattle.plantformat.specs.Rules.{lane-leads, lane-ranged};
+ghost use Rattle.plantformat.specs.Judge.{crowded, lane-placed, placed, width-of};
+ghost use Rattle.plantfile.specs.Content.{content};
+ghost use Rattle.plantfile.specs.Parts.{limit-part, record-part};
+ghost use Rattle.plantfile.specs.Told.{told, told-side, allowed};
+ghost use Rattle.plantfile.specs.Steps.{Ranged, next-told, next-judged, grown, keeps-draft, Added};
+ghost use Rattle.plantfile.specs.declared.reading.Stop.the-variants.{Fault, Memory};
+use crate::file_plant::FilePlant;
+use crate::limits::check_limit;
+use crate::questions::limit_side;
+use crate::records::Limit;
+use crate::records::Next;
+use crate::records::Record;
+use crate::records::next_record;
+use plant::MOST_LANES;
+use plant::MOST_ON_SIDE;
+use plantformat::FloorFault;
+use plantformat::FloorFromRecord;
+use plantformat::Head;
+use plantformat::Lane;
+use std::alloc::Global;
+use std::alloc::Refused;
+
+// Why a file is not read to its end: a fault of the file, or want of memory.
+#[derive(Clone, Copy)]
+enum Stop {
+    Fault(FloorFault),
+    Memory,
+}
+
+impl From<FloorFault> for Stop as StopFromFloor {
+    ghost converts = { λ e r. r ≡ Fault e };
+
+    fn from(e: FloorFault) -> Stop {
+        Stop::Fault(e)
+    }
+}
+
+impl<T: Drop> From<Refused<T>> for Stop as StopFromRefused {
+    ghost converts = { λ _ r. r ≡ Memory };
+
+    fn from(_e: Refused<T>) -> Stop {
+        Stop::Memory
+    }
+}
+
+impl<'a> FilePlant<'a> {
+    // A lane has two different ends, and does not enter the stock or leave the despatch.
+    fn leads(&self, lane: Lane) -> bool
+        ensures { λ r. ⌜ r ≡ lane-leads (now (self .entry) .head) lane ⌝ }
+    {
+        lane.from != lane.to && lane.to != self.head.stock && lane.from != self.head.despatch
+    }
+
+    // A side has as many lanes as it may have.
+    fn is_full(&self, side: usize) -> bool
+        requires { ⌜ side < 2 * now self .head .stations ⌝ }
+        ensures { λ r. ⌜ r ≡ leb most-on-side (width-of (content (now (self .entry))) side) ⌝ }
+    {
+        self.lanes_on(side).count >= MOST_ON_SIDE
+    }
+
+    // One lane more would be too many, on the floor or on one of its two sides.
+    fn is_crowded(&self, lane: Lane) -> bool
+        requires from { ⌜ lane .from < now self .head .stations ⌝ }
+        requires to { ⌜ lane .to < now self .head .stations ⌝ }
+        ensures { λ r. ⌜ r ≡ crowded (now (self .entry) .head) (vec-items (now (self .entry) .lanes)) lane ⌝ }
+    {
+        let out_side = self.is_full(2 * lane.from);
+        let in_side = self.is_full(2 * lane.to + 1);
+        if self.lanes.len() >= MOST_LANES || out_side {
+            return true;
+        }
+        in_side
+    }
+
+    // Whether a lane may be added.
+    fn lane_fits(&self, lane: Lane, at: usize) -> Result<(), FloorFault>
+        requires { ⌜ lane-ranged (now self .head .stations) lane ≡ true ⌝ }
+        ensures { λ r. ⌜ r ≡ allowed (lane-placed (content (now (self .entry))) at lane) ⌝ }
+    {
+        if !self.leads(lane) {
+            return Err(FloorFault::Ends { at });
+        }
+        if self.is_crowded(lane) {
+            return Err(FloorFault::TooMany { at });
+        }
+        Ok(())
+    }
+
+    // Whether a limit may be added.
+    fn limit_fits(&self, limit: Limit<'a>, at: usize) -> Result<(), FloorFault>
+        requires { ⌜ told-side limit < 2 * now self .head .stations ⌝ }
+        ensures { λ r. ⌜ r ≡ allowed (placed (content (now (self .entry))) at (limit-part (limit .entry))) ⌝ }
+    {
+        let side = limit_side(limit);
+        if self.limit_of(side).is_some() {
+            return Err(FloorFault::SecondLimit { at });
+        }
+        check_limit(limit, self.lanes_on(side).count, at)
+    }
+
+    // Whether a record may be added.
+    fn fits(&self, record: Record<'a>, at: usize) -> Result<(), FloorFault>
+        requires { ⌜ Ranged (now self .head .stations) (record-part «record») ⌝ }
+        ensures { λ r. ⌜ r ≡ allowed (placed (content (now (self .entry))) at (record-part («record» .entry))) ⌝ }
+    {
+        match record {
+            Record::Lane(lane) => self.lane_fits(lane, at),
+            Record::Limit(limit) => self.limit_fits(limit, at),
+        }
+    }
+
+    // The first record of `bytes`, if it may be added.
+    fn next(&self, bytes: &'a [u8], at: usize) -> Result<Next<'a>, FloorFault>
+        ensures { λ r. ⌜ next-told r ≡ next-judged (content (now (self .entry))) at (now (bytes .entry)) ⌝ }
+    {
+        let next = next_record(bytes, self.head.stations, self.limits.is_empty(), at)?;
+        self.fits(next.record, at)?;
+        Ok(next)
+    }
+
+    // One record more.
+    fn add(&mut self, record: Record<'a>) -> Result<(), Stop>
+        requires { ⌜ keeps-draft (grown (content (now self)) «record») ≡ true ⌝ }
+        ensures { λ r. ⌜ Added (content (now (self .entry))) («record» .entry) (content (now (self .exit))) r ⌝ }
+    {
+        match record {
+            Record::Lane(lane) => self.lanes.push(lane)?,
+            Record::Limit(limit) => self.limits.push(limit)?,
+        }
+        Ok(())
+    }
+}

@@ -3,16 +3,21 @@ use mathlib.Core.Path.{_≡_}
 use mathlib.Core.Bool.{Bool, true}
 use mathlib.Core.List.{List, [], _∷_, _++_}
 use Prim.Native.Nat.{ℕ, _*_, _<_}
+use lib.Dec.{ltb}
+use lib.ListN.{length}
 use Rattle.std.specs.declared.result.Result.{Result}
 use Rattle.std.specs.declared.result.Result.the-variants.{Ok, Err}
+use Rattle.plantformat.specs.Numbers.{most-bytes}
+use Rattle.plantformat.specs.declared.Head.{Head}
 use Rattle.plantformat.specs.declared.FloorFault.{FloorFault}
 use Rattle.plantformat.specs.declared.FloorFault.the-variants as flo
 use Rattle.plantformat.specs.Rules.{lane-ranged, keeps}
-use Rattle.plantformat.specs.Judge.{onward, Part, a-lane, a-table, a-groups, a-grades, Draft, draft, recorded, placed, lanes-may-come}
+use Rattle.plantformat.specs.Judge.{onward, unless, headed, Part, a-lane, a-table, a-groups, a-grades, Draft, draft, recorded, placed, lanes-may-come}
 use Rattle.plantfile.specs.Parts.{record-part}
 use Rattle.plantfile.specs.Told.{told}
 use Rattle.plantfile.specs.declared.reading.Stop.{Stop}
 use Rattle.plantfile.specs.declared.reading.Stop.the-variants.{Fault, Memory}
+use Rattle.plantfile.specs.declared.records.First.{First}
 use Rattle.plantfile.specs.declared.records.Next.{Next}
 use Rattle.plantfile.specs.declared.records.Record as code
 use Rattle.plantfile.specs.declared.records.Record.the-variants as record-of
@@ -47,3 +52,17 @@ abbrev pub Added : Draft → code.Record → Draft → Result (Unit {0}) Stop �
 Added d r e (Ok _) = e ≡ grown d r
 Added d r e (Err (Fault f)) = ⊥
 Added d r e (Err Memory) = e ≡ d
+
+-- the head of a file that is not too long, with the bytes after it
+abbrev pub opened : List ℕ → Result (Head × List ℕ) FloorFault
+opened bs = unless (ltb most-bytes (length bs)) (flo.TooMany 0) (onward flo.Record (headed bs) (λ p. Ok p))
+
+abbrev pub opened-told : Result First FloorFault → Result (Head × List ℕ) FloorFault
+opened-told (Ok f) = Ok (f .head, f .rest .now)
+opened-told (Err e) = Err e
+
+-- a whole file was read into d as it was judged, unless memory was wanting
+abbrev pub Filled : Result Draft FloorFault → Draft → Result (Unit {0}) Stop → Type 0
+Filled j d (Ok _) = j ≡ Ok d
+Filled j d (Err (Fault e)) = j ≡ Err e
+Filled j d (Err Memory) = Unit {0}

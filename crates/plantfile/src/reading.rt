@@ -1,31 +1,40 @@
 // Reading a file record by record into a plant.
 ghost use mathlib.Core.Path.{_≡_};
 ghost use mathlib.Core.Bool.{true};
-ghost use mathlib.Core.List.{map};
+ghost use mathlib.Core.List.{[]};
 ghost use Prim.Native.Nat.{_*_, _<_};
 ghost use lib.Dec.{leb};
 ghost use Rattle.std.specs.Of.Vec.{vec-items};
 ghost use Rattle.floor.specs.Numbers.{most-on-side};
 ghost use Rattle.plantformat.specs.Rules.{lane-leads, lane-ranged};
-ghost use Rattle.plantformat.specs.Judge.{crowded, lane-placed, placed, width-of};
+ghost use Rattle.plantformat.specs.Judge.{crowded, judge, lane-placed, placed, width-of};
 ghost use Rattle.plantfile.specs.Content.{content};
 ghost use Rattle.plantfile.specs.Parts.{limit-part, record-part};
 ghost use Rattle.plantfile.specs.Told.{told, told-side, allowed};
-ghost use Rattle.plantfile.specs.Steps.{Ranged, next-told, next-judged, grown, keeps-draft, Added};
+ghost use Rattle.plantfile.specs.Steps.{Ranged, next-told, next-judged, grown, keeps-draft, Added, opened, opened-told, Filled};
+ghost use Rattle.plantfile.specs.Promise.{empty-draft, Judged, Promised};
 ghost use Rattle.plantfile.specs.declared.reading.Stop.the-variants.{Fault, Memory};
 use crate::file_plant::FilePlant;
 use crate::limits::check_limit;
 use crate::questions::limit_side;
+use crate::records::First;
 use crate::records::Limit;
 use crate::records::Next;
 use crate::records::Record;
+use crate::records::first_record;
 use crate::records::next_record;
 use plant::MOST_LANES;
 use plant::MOST_ON_SIDE;
+use plant::Refusal;
+use plant::RefusalDebug;
+use plant::RefusalPartialEq;
+use plant::RefusalEq;
 use plantformat::FloorFault;
 use plantformat::FloorFromRecord;
 use plantformat::Head;
 use plantformat::Lane;
+use plantformat::MOST_BYTES;
+use plantformat::tell;
 use std::alloc::Global;
 use std::alloc::Refused;
 
@@ -138,5 +147,64 @@ impl<'a> FilePlant<'a> {
             Record::Limit(limit) => self.limits.push(limit)?,
         }
         Ok(())
+    }
+
+    // Every record of a file, into an empty plant.
+    fn fill(&mut self, file: &'a [u8]) -> Result<(), Stop>
+        requires lanes { ⌜ vec-items (now self .lanes) ≡ [] ⌝ }
+        requires limits { ⌜ vec-items (now self .limits) ≡ [] ⌝ }
+        ensures { λ r. ⌜ Filled (judge (now (file .entry))) (content (now (self .exit))) r ⌝ }
+    {
+        let first = open_file(file)?;
+        self.head = first.head;
+        let mut rest = first.rest;
+        while !rest.is_empty() {
+            let next = self.next(rest, file.len() - rest.len())?;
+            self.add(next.record)?;
+            rest = next.rest;
+        }
+        Ok(())
+    }
+
+    // The empty floor: two stations, stock 0, despatch 1, no lane.
+    fn empty(heap: Global) -> FilePlant<'a>
+        ensures { λ r. ⌜ content r ≡ empty-draft ⌝ }
+    {
+        FilePlant { head: Head { stations: 2, stock: 0, despatch: 1 }, lanes: Vec::new(heap), limits: Vec::new(heap) }
+    }
+}
+
+// The head of a file that is not too long.
+fn open_file<'a>(file: &'a [u8]) -> Result<First<'a>, FloorFault>
+    ensures { λ r. ⌜ opened-told r ≡ opened (now (file .entry)) ⌝ }
+{
+    if file.len() > MOST_BYTES {
+        return Err(FloorFault::TooMany { at: 0 });
+    }
+    let first = first_record(file)?;
+    Ok(first)
+}
+
+// What becomes of a file.
+#[derive(Clone, Copy, Debug, PartialEq, Eq)]
+pub enum Verdict {
+    // The file is a plant file.
+    Accepted,
+    // The file is no plant file, for this reason.
+    Refused(Refusal),
+    // There was not enough memory to read the file.
+    NoMemory,
+}
+
+// A file's plant together with the verdict on the file. The plant of a file that is not accepted is the empty floor.
+pub fn read_plant<'a>(heap: Global, file: &'a [u8]) -> (FilePlant<'a>, Verdict)
+    ensures judged { λ r. ⌜ Judged (judge (now (file .entry))) (content (r .0)) (r .1) ⌝ }
+    ensures promised { λ r. ⌜ Promised (now (file .entry)) (r .0) (r .1) ⌝ }
+{
+    let mut plant = FilePlant::empty(heap);
+    match plant.fill(file) {
+        Ok(()) => (plant, Verdict::Accepted),
+        Err(Stop::Fault(fault)) => (FilePlant::empty(heap), Verdict::Refused(tell(fault))),
+        Err(Stop::Memory) => (FilePlant::empty(heap), Verdict::NoMemory),
     }
 }

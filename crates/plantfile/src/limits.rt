@@ -6,7 +6,8 @@ ghost use lib.ListN.{length, getD};
 ghost use Rattle.std.specs.declared.option.Option.the-variants.{Some};
 ghost use Rattle.polymatroid.specs.Sets.{has};
 ghost use Rattle.plantformat.specs.Records.{cap-by};
-ghost use Rattle.plantformat.specs.Rules.{limit-keeps};
+ghost use Rattle.plantformat.specs.Rules.{limit-keeps, all-at-most};
+ghost use Rattle.plantformat.specs.Judge.{longs};
 ghost use Rattle.plantfile.specs.Told.{told, limit-read, allowed};
 use crate::records::Limit;
 use crate::records::long_at;
@@ -19,4 +20,16 @@ pub fn contains(set: usize, position: usize) -> bool
     ensures { λ r. ⌜ r ≡ has set position ⌝ }
 {
     set >> position & 1 == 1
+}
+
+// Every four-byte number is at most `top`.
+fn longs_at_most(bytes: &[u8], top: u32) -> bool
+    ensures { λ r. ⌜ r ≡ all-at-most top (longs (now (bytes .entry))) ⌝ }
+{
+    for i in 0..bytes.len() / 4 {
+        if long_at(bytes, 4 * i) > top {
+            return false;
+        }
+    }
+    true
 }

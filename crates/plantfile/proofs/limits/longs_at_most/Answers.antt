@@ -1,10 +1,15 @@
 use mathlib.Core.Path.{sym}
 use native.Mathlib.Omega.{arith}
-use Rattle.plantfile.proofs.Checked.{at-most-from, at-most-fails}
+use Rattle.plantformat.specs.Judge.{longs}
+use Rattle.plantfile.proofs.Checked.{at-most-from, at-most-fails, length-longs}
 use Rattle.plantfile.proofs.limits.longs_at_most.Needs as need
 
-pub returns-then-long-at-top : need.returns-then-long-at-top
-returns-then-long-at-top c = sym (at-most-fails _ _ _ (c .loop-i .i) (c .loop-i-test .taken) (omega arith))
+pub returns-then-nth-long-top : need.returns-then-nth-long-top
+returns-then-nth-long-top c =
+    let size = length-longs (c .args .bytes .now) in
+    sym (at-most-fails (c .args .top) (longs (c .args .bytes .now)) (c .loop-n .n) (omega arith) (omega arith))
 
 pub returns : need.returns
-returns c = sym (at-most-from _ _ _ (λ i l. c .loop-i .inv i (omega arith)))
+returns c =
+    let size = length-longs (c .args .bytes .now) in
+    sym (at-most-from (c .args .top) (longs (c .args .bytes .now)) (λ i l. c .loop-n .inv i (omega arith)))

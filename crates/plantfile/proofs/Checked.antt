@@ -1,20 +1,21 @@
 -- Tests of lists of numbers, from what holds of the numbers one by one.
 use mathlib.Core.Path.{_≡_, refl, sym, ap, _∙_}
-use mathlib.Core.Bool.{Bool, true, false, _&&_}
+use mathlib.Core.Bool.{Bool, true, false, cond, _&&_}
 use mathlib.Core.Logic.{inl, inr}
 use mathlib.Core.List.{List, [], _∷_}
 use Prim.Native.Nat.{ℕ, zero, suc, _+_, _-_, _*_, _/_, _≤_, _<_}
 use native.Mathlib.Omega.{arith}
 use native.Mathlib.Numerals.{unary-clauses}
-use lib.Dec.{leb, ltb}
+use lib.Dec.{eqb, leb, ltb}
 use lib.ListN.{length, getD}
 use Rattle.std.proofs.shelf.Counted.{length-map-counting, getD-map-counting}
-use Rattle.std.proofs.shelf.Tests.{both-ways, cases-bool, le-leb, lt-leb, leb-true, lt-ltb, le-ltb, ltb-true}
+use Rattle.std.proofs.shelf.Ways.{tells}
+use Rattle.std.proofs.shelf.Tests.{both-ways, cases-bool, eq-eqb, ne-eqb, eqb-true, le-leb, lt-leb, leb-true, lt-ltb, le-ltb, ltb-true}
 use Rattle.polymatroid.specs.Tables.{every}
 use Rattle.polymatroid.proofs.Tables.{every-at, every-from}
-use Rattle.plantformat.specs.Bytes.{long}
-use Rattle.plantformat.specs.Rules.{all-of, all-at-most, all-below, steps-fall}
-use Rattle.plantformat.specs.Judge.{longs}
+use Rattle.plantformat.specs.Bytes.{word, long, listed}
+use Rattle.plantformat.specs.Rules.{all-of, all-at-most, all-below, parents-keep, steps-fall}
+use Rattle.plantformat.specs.Judge.{longs, parents-at, bounds-at, members-at}
 
 -- one number that fails is enough
 pub every-fails : (n : ℕ) (t : ℕ → Bool) (i : ℕ) → i < n → t i ≡ false → every n t ≡ false
@@ -92,3 +93,54 @@ module _ (k : ℕ) (steps : List ℕ) where
   steps-fall-fails (suc n) p l h =
       every-fails (k - 1) (λ i. leb (getD steps (suc i) 0) (getD steps i 0)) n (omega arith)
       (lt-leb (getD steps (suc n) 0) (getD steps n 0) (simp unary-clauses at h))
+
+-- ---- groups
+
+listed-at : (n : ℕ) (f : ℕ → ℕ) (i : ℕ) → i < n → getD (listed n f) i 0 ≡ f i
+listed-at n f i l = getD-map-counting f 0 n i i 0 l (omega arith)
+
+module _ (b : List ℕ) where
+  pub length-parents : (g : ℕ) → length (parents-at g b) ≡ g
+  length-parents g = length-map-counting (λ j. word b (6 * j)) 0 g
+
+  pub length-bounds : (g : ℕ) → length (bounds-at g b) ≡ g
+  length-bounds g = length-map-counting (λ j. long b (6 * j + 2)) 0 g
+
+  pub length-members : (k g : ℕ) → length (members-at k g b) ≡ k
+  length-members k g = length-map-counting (λ p. word b (6 * g + 2 * p)) 0 k
+
+  pub parents-is : (g j : ℕ) → j < g → getD (parents-at g b) j 0 ≡ word b (6 * j)
+  parents-is g j l = listed-at g (λ j. word b (6 * j)) j l
+
+  pub bounds-is : (g j : ℕ) → j < g → getD (bounds-at g b) j 0 ≡ long b (6 * j + 2)
+  bounds-is g j l = listed-at g (λ j. long b (6 * j + 2)) j l
+
+  pub members-is : (k g p : ℕ) → p < k → getD (members-at k g b) p 0 ≡ word b (6 * g + 2 * p)
+  members-is k g p l = listed-at k (λ p. word b (6 * g + 2 * p)) p l
+
+module _ (parents : List ℕ) where
+  abbrev parent-keeps : ℕ → Bool
+  parent-keeps j = cond (eqb j 0) (eqb (getD parents j 0) 0) (ltb (getD parents j 0) j)
+
+  pub parents-keep-from : getD parents 0 0 ≡ 0 → ((j : ℕ) → 0 < j → j < length parents → getD parents j 0 < j) → parents-keep parents ≡ true
+  unfolding parents-keep
+  parents-keep-from root lower = every-from (length parents) parent-keeps at
+    where
+      at : (j : ℕ) → j < length parents → parent-keeps j ≡ true
+      at zero l = eq-eqb (getD parents 0 0) 0 root
+      at (suc j) l = let h = lower (suc j) (omega arith) l in grind (arith, tells)
+
+  pub root-fails : 0 < length parents → (getD parents 0 0 ≡ 0 → ⊥) → parents-keep parents ≡ false
+  unfolding parents-keep
+  root-fails l h = every-fails (length parents) parent-keeps 0 l (ne-eqb (getD parents 0 0) 0 h)
+
+  pub parent-fails : (j : ℕ) → 0 < j → j < length parents → j ≤ getD parents j 0 → parents-keep parents ≡ false
+  unfolding parents-keep
+  parent-fails j p l h = every-fails (length parents) parent-keeps j l (grind (arith, tells))
+
+  pub parents-keep-at : parents-keep parents ≡ true → 0 < length parents
+      → (getD parents 0 0 ≡ 0) × ((j : ℕ) → 0 < j → j < length parents → getD parents j 0 < j)
+  unfolding parents-keep
+  parents-keep-at e some =
+      let at = every-at (length parents) parent-keeps e in
+      (eqb-true (getD parents 0 0) 0 (at 0 some), λ j p l. let h = at j l in grind (arith, tells))

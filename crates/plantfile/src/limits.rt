@@ -5,6 +5,7 @@ ghost use Prim.Native.Nat.{ℕ, _+_, _*_, _^_, _≤_, _<_};
 ghost use lib.ListN.{length, getD};
 ghost use Rattle.std.specs.declared.option.Option.the-variants.{Some};
 ghost use Rattle.polymatroid.specs.Sets.{has};
+ghost use Rattle.floor.specs.Numbers.{top-cap};
 ghost use Rattle.plantformat.specs.Records.{cap-by};
 ghost use Rattle.plantformat.specs.Bytes.{word, long};
 ghost use Rattle.plantformat.specs.Rules.{limit-keeps, all-at-most, all-below, parents-keep, steps-fall};
@@ -13,6 +14,7 @@ ghost use Rattle.plantfile.specs.Told.{told, limit-read, allowed};
 use crate::records::Limit;
 use crate::records::long_at;
 use crate::records::word_at;
+use plant::TOP_CAP;
 use plantformat::FloorFault;
 
 // Position p is in the set.
@@ -50,6 +52,73 @@ fn steps_fall(steps: &[u8], width: usize) -> bool
 {
     for n in 1..width {
         if nth_long(steps, n) > nth_long(steps, n - 1) {
+            return false;
+        }
+    }
+    true
+}
+
+// The parent of a group.
+fn parent_of(numbers: &[u8], group: usize) -> usize
+    requires { ⌜ 6 * group + 6 ≤ length (now numbers) ⌝ }
+    ensures { λ r. ⌜ r ≡ word (now (numbers .entry)) (6 * group) ⌝ }
+{
+    word_at(numbers, 6 * group)
+}
+
+// The bound of a group.
+fn bound_of(numbers: &[u8], group: usize) -> u32
+    requires { ⌜ 6 * group + 6 ≤ length (now numbers) ⌝ }
+    ensures { λ r. ⌜ r ≡ long (now (numbers .entry)) (6 * group + 2) ⌝ }
+{
+    long_at(numbers, 6 * group + 2)
+}
+
+// The group of a position, which stands after the parents and bounds of `count` groups.
+fn group_of(numbers: &[u8], count: usize, position: usize) -> usize
+    requires { ⌜ 6 * count + (2 * position + 2) ≤ length (now numbers) ⌝ }
+    ensures { λ r. ⌜ r ≡ word (now (numbers .entry)) (6 * count + 2 * position) ⌝ }
+{
+    word_at(numbers, 6 * count + 2 * position)
+}
+
+// Group 0 is its own parent, and every other parent is a lower group.
+fn parents_keep(numbers: &[u8], count: usize) -> bool
+    requires some { ⌜ 1 ≤ count ⌝ }
+    requires whole { ⌜ 6 * count ≤ length (now numbers) ⌝ }
+    ensures { λ r. ⌜ r ≡ parents-keep (parents-at count (now (numbers .entry))) ⌝ }
+{
+    if parent_of(numbers, 0) != 0 {
+        return false;
+    }
+    for group in 1..count {
+        if parent_of(numbers, group) >= group {
+            return false;
+        }
+    }
+    true
+}
+
+// No group has a bound above the top cap.
+fn bounds_low(numbers: &[u8], count: usize) -> bool
+    requires { ⌜ 6 * count ≤ length (now numbers) ⌝ }
+    ensures { λ r. ⌜ r ≡ all-at-most top-cap (bounds-at count (now (numbers .entry))) ⌝ }
+{
+    for group in 0..count {
+        if bound_of(numbers, group) > TOP_CAP {
+            return false;
+        }
+    }
+    true
+}
+
+// Every position has one of `count` groups.
+fn members_grouped(numbers: &[u8], count: usize, width: usize) -> bool
+    requires { ⌜ 6 * count + 2 * width ≤ length (now numbers) ⌝ }
+    ensures { λ r. ⌜ r ≡ all-below count (members-at width count (now (numbers .entry))) ⌝ }
+{
+    for position in 0..width {
+        if group_of(numbers, count, position) >= count {
             return false;
         }
     }

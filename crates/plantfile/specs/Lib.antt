@@ -1,3 +1,4 @@
+pub mod Checks
 pub mod Frames
 pub mod Parts
 pub mod Told

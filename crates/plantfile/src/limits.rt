@@ -3,13 +3,16 @@ ghost use mathlib.Core.Path.{_≡_};
 ghost use mathlib.Core.Bool.{true};
 ghost use Prim.Native.Nat.{ℕ, _+_, _*_, _^_, _≤_, _<_};
 ghost use lib.ListN.{length, getD};
+ghost use lib.Bits.{bitOr};
 ghost use Rattle.std.specs.declared.option.Option.the-variants.{Some};
 ghost use Rattle.polymatroid.specs.Sets.{has};
+ghost use Rattle.polymatroid.specs.Tables.{every, risesAt, bendsAt, rises, bows};
 ghost use Rattle.floor.specs.Numbers.{top-cap};
 ghost use Rattle.plantformat.specs.Records.{cap-by};
 ghost use Rattle.plantformat.specs.Bytes.{word, long};
 ghost use Rattle.plantformat.specs.Rules.{limit-keeps, all-at-most, all-below, parents-keep, steps-fall};
 ghost use Rattle.plantformat.specs.Judge.{longs, parents-at, bounds-at, members-at};
+ghost use Rattle.plantfile.specs.Checks.{table-cap};
 ghost use Rattle.plantfile.specs.Told.{told, limit-read, allowed};
 use crate::records::Limit;
 use crate::records::long_at;
@@ -23,6 +26,14 @@ pub fn contains(set: usize, position: usize) -> bool
     ensures { λ r. ⌜ r ≡ has set position ⌝ }
 {
     set >> position & 1 == 1
+}
+
+// The set with one position more.
+fn with_position(set: usize, position: usize) -> usize
+    requires { ⌜ position < 64 ⌝ }
+    ensures { λ r. ⌜ r ≡ bitOr set (2 ^ position) ⌝ }
+{
+    set | 1 << position
 }
 
 // The four-byte number with so many before it.
@@ -119,6 +130,21 @@ fn members_grouped(numbers: &[u8], count: usize, width: usize) -> bool
 {
     for position in 0..width {
         if group_of(numbers, count, position) >= count {
+            return false;
+        }
+    }
+    true
+}
+
+// No position more lowers the cap of the set.
+fn set_rises(caps: &[u8], width: usize, set: usize) -> bool
+    requires narrow { ⌜ width ≤ 8 ⌝ }
+    requires whole { ⌜ length (now caps) ≡ 4 * 2 ^ width ⌝ }
+    requires on { ⌜ set < 2 ^ width ⌝ }
+    ensures { λ r. ⌜ r ≡ every width (λ p. risesAt (table-cap (now (caps .entry))) set p) ⌝ }
+{
+    for position in 0..width {
+        if !contains(set, position) && nth_long(caps, set) > nth_long(caps, with_position(set, position)) {
             return false;
         }
     }

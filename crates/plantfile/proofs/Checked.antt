@@ -3,19 +3,23 @@ use mathlib.Core.Path.{_≡_, refl, sym, ap, _∙_}
 use mathlib.Core.Bool.{Bool, true, false, cond, _&&_}
 use mathlib.Core.Logic.{inl, inr}
 use mathlib.Core.List.{List, [], _∷_}
-use Prim.Native.Nat.{ℕ, zero, suc, _+_, _-_, _*_, _/_, _≤_, _<_}
+use Prim.Native.Nat.{ℕ, zero, suc, _+_, _-_, _*_, _/_, _^_, _≤_, _<_}
 use native.Mathlib.Omega.{arith}
 use native.Mathlib.Numerals.{unary-clauses}
 use lib.Dec.{eqb, leb, ltb}
+use lib.Bits.{bitOr}
 use lib.ListN.{length, getD}
 use Rattle.std.proofs.shelf.Counted.{length-map-counting, getD-map-counting}
 use Rattle.std.proofs.shelf.Ways.{tells}
 use Rattle.std.proofs.shelf.Tests.{both-ways, cases-bool, eq-eqb, ne-eqb, eqb-true, le-leb, lt-leb, leb-true, lt-ltb, le-ltb, ltb-true}
 use Rattle.polymatroid.specs.Tables.{every}
+use Rattle.polymatroid.proofs.Build.{plus-below}
 use Rattle.polymatroid.proofs.Tables.{every-at, every-from}
+use Rattle.floor.specs.Numbers.{top-cap}
 use Rattle.plantformat.specs.Bytes.{word, long, listed}
 use Rattle.plantformat.specs.Rules.{all-of, all-at-most, all-below, parents-keep, steps-fall}
 use Rattle.plantformat.specs.Judge.{longs, parents-at, bounds-at, members-at}
+use Rattle.plantfile.specs.Checks.{Table-of, table-cap}
 
 -- one number that fails is enough
 pub every-fails : (n : ℕ) (t : ℕ → Bool) (i : ℕ) → i < n → t i ≡ false → every n t ≡ false
@@ -144,3 +148,13 @@ module _ (parents : List ℕ) where
   parents-keep-at e some =
       let at = every-at (length parents) parent-keeps e in
       (eqb-true (getD parents 0 0) 0 (at 0 some), λ j p l. let h = at j l in grind (arith, tells))
+
+-- ---- tables
+
+-- a set with one position more is on the side
+pub joined-below : (k : ℕ) {X p Y : ℕ} → X < 2 ^ k → p < k → Y ≡ bitOr X (2 ^ p) → Y < 2 ^ k
+joined-below k {X} {p} {Y} l h e = let m = plus-below k X p l h in omega arith
+
+-- the caps of a table are low
+pub table-low : {k : ℕ} {b : List ℕ} → Table-of k b → (X : ℕ) → X < 2 ^ k → table-cap b X ≤ top-cap
+table-low {k} {b} t X l = let n = length-longs b in let w = t .whole in at-most-at top-cap (longs b) (t .low) X (omega arith)

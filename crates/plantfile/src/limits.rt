@@ -12,7 +12,7 @@ ghost use Rattle.plantformat.specs.Records.{cap-by};
 ghost use Rattle.plantformat.specs.Bytes.{word, long};
 ghost use Rattle.plantformat.specs.Rules.{limit-keeps, all-at-most, all-below, parents-keep, steps-fall};
 ghost use Rattle.plantformat.specs.Judge.{longs, parents-at, bounds-at, members-at};
-ghost use Rattle.plantfile.specs.Checks.{table-cap};
+ghost use Rattle.plantfile.specs.Checks.{Table-of, table-cap};
 ghost use Rattle.plantfile.specs.Told.{told, limit-read, allowed};
 use crate::records::Limit;
 use crate::records::long_at;
@@ -138,13 +138,70 @@ fn members_grouped(numbers: &[u8], count: usize, width: usize) -> bool
 
 // No position more lowers the cap of the set.
 fn set_rises(caps: &[u8], width: usize, set: usize) -> bool
-    requires narrow { ⌜ width ≤ 8 ⌝ }
-    requires whole { ⌜ length (now caps) ≡ 4 * 2 ^ width ⌝ }
+    requires table { ⌜ Table-of width (now caps) ⌝ }
     requires on { ⌜ set < 2 ^ width ⌝ }
     ensures { λ r. ⌜ r ≡ every width (λ p. risesAt (table-cap (now (caps .entry))) set p) ⌝ }
 {
     for position in 0..width {
-        if !contains(set, position) && nth_long(caps, set) > nth_long(caps, with_position(set, position)) {
+        if !contains(set, position)
+            && nth_long(caps, set) > nth_long(caps, with_position(set, position))
+        {
+            return false;
+        }
+    }
+    true
+}
+
+// No set of the table has its cap lowered by a position more.
+fn table_rises(caps: &[u8], width: usize) -> bool
+    requires table { ⌜ Table-of width (now caps) ⌝ }
+    ensures { λ r. ⌜ r ≡ rises width (table-cap (now (caps .entry))) ⌝ }
+{
+    for set in 0..1 << width {
+        if !set_rises(caps, width, set) {
+            return false;
+        }
+    }
+    true
+}
+
+// Positions p and q together bring no more to the set than each alone.
+fn pair_bends(caps: &[u8], set: usize, p: usize, q: usize) -> bool
+    requires { ⌜ ((k : ℕ) × Table-of k (now caps) × (set < 2 ^ k) × (p < q) × (q < k)) ⌝ }
+    ensures { λ r. ⌜ r ≡ bendsAt (table-cap (now (caps .entry))) set p q ⌝ }
+{
+    if contains(set, p) || contains(set, q) {
+        return true;
+    }
+    let with_q = with_position(set, q);
+    let together = nth_long(caps, with_position(with_q, p)) + nth_long(caps, set);
+    let apart = nth_long(caps, with_position(set, p)) + nth_long(caps, with_q);
+    together <= apart
+}
+
+// No two positions bring more to the set together than each alone.
+fn set_bends(caps: &[u8], width: usize, set: usize) -> bool
+    requires table { ⌜ Table-of width (now caps) ⌝ }
+    requires on { ⌜ set < 2 ^ width ⌝ }
+    ensures { λ r. ⌜ r ≡ every width (λ q. every q (λ p. bendsAt (table-cap (now (caps .entry))) set p q)) ⌝ }
+{
+    for q in 0..width {
+        for p in 0..q {
+            if !pair_bends(caps, set, p, q) {
+                return false;
+            }
+        }
+    }
+    true
+}
+
+// No set of the table gets more from two positions together than from each alone.
+fn table_bends(caps: &[u8], width: usize) -> bool
+    requires table { ⌜ Table-of width (now caps) ⌝ }
+    ensures { λ r. ⌜ r ≡ bows width (table-cap (now (caps .entry))) ⌝ }
+{
+    for set in 0..1 << width {
+        if !set_bends(caps, width, set) {
             return false;
         }
     }

@@ -1,12 +1,21 @@
--- The numbers of a limit where they lie in its bytes.
+-- What is asked of the numbers of a limit, part by part, as they lie in its bytes.
 use mathlib.Core.Path.{_≡_}
-use mathlib.Core.Bool.{true}
+use mathlib.Core.Bool.{true, not}
 use mathlib.Core.List.{List}
 use Prim.Native.Nat.{ℕ, _*_, _^_, _≤_}
+use lib.Dec.{eqb}
 use lib.ListN.{length, getD}
+use Rattle.std.specs.declared.result.Result.{Result}
+use Rattle.std.specs.declared.result.Result.the-variants.{Ok, Err}
+use Rattle.polymatroid.specs.Tables.{rises, bows}
 use Rattle.floor.specs.Numbers.{most-on-side, top-cap}
+use Rattle.plantformat.specs.declared.Law.the-variants.{Empty, Grows, Bends}
+use Rattle.plantformat.specs.declared.RecordFault.{RecordFault}
+use Rattle.plantformat.specs.declared.RecordFault.the-variants as rec
+use Rattle.plantformat.specs.declared.LimitFault.{LimitFault}
+use Rattle.plantformat.specs.declared.LimitFault.the-variants as lim
 use Rattle.plantformat.specs.Rules.{all-at-most}
-use Rattle.plantformat.specs.Judge.{longs}
+use Rattle.plantformat.specs.Judge.{unless, longs}
 
 -- the bytes have a cap for each set of k positions, and none is too high
 pub record Table-of (k : ℕ) (b : List ℕ) : Type 0 where
@@ -17,3 +26,13 @@ pub record Table-of (k : ℕ) (b : List ℕ) : Type 0 where
 -- the cap of a set in a table
 abbrev pub table-cap : List ℕ → ℕ → ℕ
 table-cap b X = getD (longs b) X 0
+
+-- the size and the range of n four-byte numbers
+abbrev pub longs-checked : ℕ → ℕ → ℕ → List ℕ → Result (Unit {0}) RecordFault
+longs-checked n top at b = unless (not (eqb (length b) (4 * n))) (rec.Size at) (unless (not (all-at-most top (longs b))) (rec.Range at) (Ok tt))
+
+-- the laws of a table, the lowest first
+abbrev pub laws-checked : ℕ → ℕ → List ℕ → Result (Unit {0}) LimitFault
+laws-checked k at b =
+    unless (not (eqb (table-cap b 0) 0)) (lim.Breaks at Empty)
+    (unless (not (rises k (table-cap b))) (lim.Breaks at Grows) (unless (not (bows k (table-cap b))) (lim.Breaks at Bends) (Ok tt)))

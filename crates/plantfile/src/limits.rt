@@ -11,14 +11,19 @@ ghost use Rattle.floor.specs.Numbers.{top-cap};
 ghost use Rattle.plantformat.specs.Records.{cap-by};
 ghost use Rattle.plantformat.specs.Bytes.{word, long};
 ghost use Rattle.plantformat.specs.Rules.{limit-keeps, all-at-most, all-below, parents-keep, steps-fall};
-ghost use Rattle.plantformat.specs.Judge.{longs, parents-at, bounds-at, members-at};
-ghost use Rattle.plantfile.specs.Checks.{Table-of, table-cap};
+ghost use Rattle.plantformat.specs.Judge.{longs, parents-at, bounds-at, members-at, table-read, groups-read, grades-read};
+ghost use Rattle.plantfile.specs.Checks.{Table-of, table-cap, longs-checked, laws-checked};
 ghost use Rattle.plantfile.specs.Told.{told, limit-read, allowed};
 use crate::records::Limit;
 use crate::records::long_at;
 use crate::records::word_at;
 use plant::TOP_CAP;
 use plantformat::FloorFault;
+use plantformat::FloorFromLimit;
+use plantformat::FloorFromRecord;
+use plantformat::Law;
+use plantformat::LimitFault;
+use plantformat::RecordFault;
 
 // Position p is in the set.
 pub fn contains(set: usize, position: usize) -> bool
@@ -206,4 +211,45 @@ fn table_bends(caps: &[u8], width: usize) -> bool
         }
     }
     true
+}
+
+// There are so many four-byte numbers, and none is above `top`.
+fn check_longs(bytes: &[u8], count: usize, top: u32, at: usize) -> Result<(), RecordFault>
+    requires { ⌜ count ≤ 256 ⌝ }
+    ensures { λ r. ⌜ r ≡ longs-checked count top at (now (bytes .entry)) ⌝ }
+{
+    if bytes.len() != 4 * count {
+        return Err(RecordFault::Size { at });
+    }
+    if !longs_at_most(bytes, top) {
+        return Err(RecordFault::Range { at });
+    }
+    Ok(())
+}
+
+// The laws of a table, the lowest first.
+fn check_laws(caps: &[u8], width: usize, at: usize) -> Result<(), LimitFault>
+    requires { ⌜ Table-of width (now caps) ⌝ }
+    ensures { λ r. ⌜ r ≡ laws-checked width at (now (caps .entry)) ⌝ }
+{
+    if nth_long(caps, 0) != 0 {
+        return Err(LimitFault::Breaks { at, law: Law::Empty });
+    }
+    if !table_rises(caps, width) {
+        return Err(LimitFault::Breaks { at, law: Law::Grows });
+    }
+    if !table_bends(caps, width) {
+        return Err(LimitFault::Breaks { at, law: Law::Bends });
+    }
+    Ok(())
+}
+
+// A table: a cap for each set, then the laws.
+fn check_table(caps: &[u8], width: usize, at: usize) -> Result<(), FloorFault>
+    requires { ⌜ width ≤ 8 ⌝ }
+    ensures { λ r. ⌜ ((s : ℕ) → r ≡ allowed (table-read width at s (now (caps .entry)))) ⌝ }
+{
+    check_longs(caps, 1 << width, TOP_CAP, at)?;
+    check_laws(caps, width, at)?;
+    Ok(())
 }

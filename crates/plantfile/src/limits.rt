@@ -23,7 +23,9 @@ use plantformat::FloorFromLimit;
 use plantformat::FloorFromRecord;
 use plantformat::Law;
 use plantformat::LimitFault;
+use plantformat::MOST_GROUPS;
 use plantformat::RecordFault;
+use plantformat::TOP_LANE;
 
 // Position p is in the set.
 pub fn contains(set: usize, position: usize) -> bool
@@ -252,4 +254,45 @@ fn check_table(caps: &[u8], width: usize, at: usize) -> Result<(), FloorFault>
     check_longs(caps, 1 << width, TOP_CAP, at)?;
     check_laws(caps, width, at)?;
     Ok(())
+}
+
+// Groups: how many there are, then the size, then the parents, bounds and members.
+fn check_groups(count: usize, numbers: &[u8], width: usize, at: usize) -> Result<(), FloorFault>
+    requires { ⌜ width ≤ 8 ⌝ }
+    ensures { λ r. ⌜ ((s : ℕ) → r ≡ allowed (groups-read width at s count (now (numbers .entry)))) ⌝ }
+{
+    if count < 1 || count > MOST_GROUPS {
+        return Err(FloorFault::Record(RecordFault::Range { at }));
+    }
+    if numbers.len() != 6 * count + 2 * width {
+        return Err(FloorFault::Record(RecordFault::Size { at }));
+    }
+    if !parents_keep(numbers, count) || !bounds_low(numbers, count) || !members_grouped(numbers, count, width) {
+        return Err(FloorFault::Record(RecordFault::Range { at }));
+    }
+    Ok(())
+}
+
+// Grades: one for each position, then law 3.
+fn check_grades(steps: &[u8], width: usize, at: usize) -> Result<(), FloorFault>
+    requires { ⌜ width ≤ 8 ⌝ }
+    ensures { λ r. ⌜ ((s : ℕ) → r ≡ allowed (grades-read width at s (now (steps .entry)))) ⌝ }
+{
+    check_longs(steps, width, TOP_LANE, at)?;
+    if !steps_fall(steps, width) {
+        return Err(FloorFault::Limit(LimitFault::Breaks { at, law: Law::Bends }));
+    }
+    Ok(())
+}
+
+// A limit of a side of `width` lanes, whose record lies at the place `at` of the file.
+pub fn check_limit(limit: Limit, width: usize, at: usize) -> Result<(), FloorFault>
+    requires { ⌜ width ≤ 8 ⌝ }
+    ensures { λ r. ⌜ r ≡ allowed (limit-read width at (limit .entry)) ⌝ }
+{
+    match limit {
+        Limit::Table { side: _, caps } => check_table(caps, width, at),
+        Limit::Groups { side: _, count, numbers } => check_groups(count, numbers, width, at),
+        Limit::Grades { side: _, steps } => check_grades(steps, width, at),
+    }
 }

@@ -1,21 +1,22 @@
 -- What is asked of the numbers of a limit, part by part, as they lie in its bytes.
 use mathlib.Core.Path.{_≡_}
-use mathlib.Core.Bool.{true, not}
+use mathlib.Core.Bool.{true, not, _&&_, _||_}
 use mathlib.Core.List.{List}
-use Prim.Native.Nat.{ℕ, _*_, _^_, _≤_}
-use lib.Dec.{eqb}
+use Prim.Native.Nat.{ℕ, _+_, _*_, _^_, _≤_}
+use lib.Dec.{eqb, ltb}
 use lib.ListN.{length, getD}
 use Rattle.std.specs.declared.result.Result.{Result}
 use Rattle.std.specs.declared.result.Result.the-variants.{Ok, Err}
 use Rattle.polymatroid.specs.Tables.{rises, bows}
 use Rattle.floor.specs.Numbers.{most-on-side, top-cap}
+use Rattle.plantformat.specs.Numbers.{most-groups}
 use Rattle.plantformat.specs.declared.Law.the-variants.{Empty, Grows, Bends}
 use Rattle.plantformat.specs.declared.RecordFault.{RecordFault}
 use Rattle.plantformat.specs.declared.RecordFault.the-variants as rec
 use Rattle.plantformat.specs.declared.LimitFault.{LimitFault}
 use Rattle.plantformat.specs.declared.LimitFault.the-variants as lim
-use Rattle.plantformat.specs.Rules.{all-at-most}
-use Rattle.plantformat.specs.Judge.{unless, longs}
+use Rattle.plantformat.specs.Rules.{all-at-most, all-below, parents-keep}
+use Rattle.plantformat.specs.Judge.{unless, longs, parents-at, bounds-at, members-at}
 
 -- the bytes have a cap for each set of k positions, and none is too high
 pub record Table-of (k : ℕ) (b : List ℕ) : Type 0 where
@@ -36,3 +37,10 @@ abbrev pub laws-checked : ℕ → ℕ → List ℕ → Result (Unit {0}) LimitFa
 laws-checked k at b =
     unless (not (eqb (table-cap b 0) 0)) (lim.Breaks at Empty)
     (unless (not (rises k (table-cap b))) (lim.Breaks at Grows) (unless (not (bows k (table-cap b))) (lim.Breaks at Bends) (Ok tt)))
+
+-- the number, the size and the ranges of g groups and of the groups of k positions
+abbrev pub groups-checked : ℕ → ℕ → ℕ → List ℕ → Result (Unit {0}) RecordFault
+groups-checked g k at b =
+    unless (ltb g 1 || ltb most-groups g) (rec.Range at)
+    (unless (not (eqb (length b) (6 * g + 2 * k))) (rec.Size at)
+    (unless (not (parents-keep (parents-at g b) && (all-at-most top-cap (bounds-at g b) && all-below g (members-at k g b)))) (rec.Range at) (Ok tt)))

@@ -11,8 +11,8 @@ ghost use Rattle.floor.specs.Numbers.{top-cap};
 ghost use Rattle.plantformat.specs.Records.{cap-by};
 ghost use Rattle.plantformat.specs.Bytes.{word, long};
 ghost use Rattle.plantformat.specs.Rules.{limit-keeps, all-at-most, all-below, parents-keep, steps-fall};
-ghost use Rattle.plantformat.specs.Judge.{longs, parents-at, bounds-at, members-at, table-read, groups-read, grades-read};
-ghost use Rattle.plantfile.specs.Checks.{Table-of, table-cap, longs-checked, laws-checked};
+ghost use Rattle.plantformat.specs.Judge.{longs, parents-at, bounds-at, members-at, table-read, grades-read};
+ghost use Rattle.plantfile.specs.Checks.{Table-of, table-cap, longs-checked, laws-checked, groups-checked};
 ghost use Rattle.plantfile.specs.Told.{told, limit-read, allowed};
 use crate::records::Limit;
 use crate::records::long_at;
@@ -257,18 +257,21 @@ fn check_table(caps: &[u8], width: usize, at: usize) -> Result<(), FloorFault>
 }
 
 // Groups: how many there are, then the size, then the parents, bounds and members.
-fn check_groups(count: usize, numbers: &[u8], width: usize, at: usize) -> Result<(), FloorFault>
+fn check_groups(count: usize, numbers: &[u8], width: usize, at: usize) -> Result<(), RecordFault>
     requires { ⌜ width ≤ 8 ⌝ }
-    ensures { λ r. ⌜ ((s : ℕ) → r ≡ allowed (groups-read width at s count (now (numbers .entry)))) ⌝ }
+    ensures { λ r. ⌜ r ≡ groups-checked count width at (now (numbers .entry)) ⌝ }
 {
     if count < 1 || count > MOST_GROUPS {
-        return Err(FloorFault::Record(RecordFault::Range { at }));
+        return Err(RecordFault::Range { at });
     }
     if numbers.len() != 6 * count + 2 * width {
-        return Err(FloorFault::Record(RecordFault::Size { at }));
+        return Err(RecordFault::Size { at });
     }
-    if !parents_keep(numbers, count) || !bounds_low(numbers, count) || !members_grouped(numbers, count, width) {
-        return Err(FloorFault::Record(RecordFault::Range { at }));
+    if !parents_keep(numbers, count)
+        || !bounds_low(numbers, count)
+        || !members_grouped(numbers, count, width)
+    {
+        return Err(RecordFault::Range { at });
     }
     Ok(())
 }
@@ -291,8 +294,9 @@ pub fn check_limit(limit: Limit, width: usize, at: usize) -> Result<(), FloorFau
     ensures { λ r. ⌜ r ≡ allowed (limit-read width at (limit .entry)) ⌝ }
 {
     match limit {
-        Limit::Table { side: _, caps } => check_table(caps, width, at),
-        Limit::Groups { side: _, count, numbers } => check_groups(count, numbers, width, at),
-        Limit::Grades { side: _, steps } => check_grades(steps, width, at),
+        Limit::Table { caps, .. } => check_table(caps, width, at)?,
+        Limit::Groups { count, numbers, .. } => check_groups(count, numbers, width, at)?,
+        Limit::Grades { steps, .. } => check_grades(steps, width, at)?,
     }
+    Ok(())
 }

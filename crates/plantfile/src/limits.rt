@@ -7,7 +7,9 @@ ghost use lib.Bits.{bitOr};
 ghost use Rattle.std.specs.declared.option.Option.the-variants.{Some};
 ghost use Rattle.polymatroid.specs.Sets.{has};
 ghost use Rattle.polymatroid.specs.Tables.{every, risesAt, bendsAt, rises, bows};
+ghost use Rattle.polymatroid.specs.Kinds.{graded};
 ghost use Rattle.floor.specs.Numbers.{top-cap};
+ghost use Rattle.plantformat.specs.Numbers.{top-lane};
 ghost use Rattle.plantformat.specs.Records.{cap-by};
 ghost use Rattle.plantformat.specs.Bytes.{word, long};
 ghost use Rattle.plantformat.specs.Rules.{limit-keeps, all-at-most, all-below, parents-keep, steps-fall};
@@ -299,4 +301,22 @@ pub fn check_limit(limit: Limit, width: usize, at: usize) -> Result<(), FloorFau
         Limit::Grades { steps, .. } => check_grades(steps, width, at)?,
     }
     Ok(())
+}
+
+// The sum of as many first grades as the set has members.
+fn grades_cap(steps: &[u8], width: usize, set: usize) -> u32
+    requires narrow { ⌜ width ≤ 8 ⌝ }
+    requires whole { ⌜ length (longs (now steps)) ≡ width ⌝ }
+    requires low { ⌜ all-at-most top-lane (longs (now steps)) ≡ true ⌝ }
+    ensures { λ r. ⌜ r ≡ graded (λ j. getD (longs (now (steps .entry))) j 0) width set ⌝ }
+{
+    let mut sum = 0;
+    let mut members = 0;
+    for position in 0..width {
+        if contains(set, position) {
+            sum += nth_long(steps, members);
+            members += 1;
+        }
+    }
+    sum
 }

@@ -14,7 +14,7 @@ ghost use Rattle.plantformat.specs.Records.{cap-by};
 ghost use Rattle.plantformat.specs.Bytes.{word, long};
 ghost use Rattle.plantformat.specs.Rules.{limit-keeps, all-at-most, all-below, parents-keep, steps-fall};
 ghost use Rattle.plantformat.specs.Judge.{longs, parents-at, bounds-at, members-at, table-read, grades-read};
-ghost use Rattle.plantfile.specs.Checks.{Table-of, table-cap, longs-checked, laws-checked, groups-checked};
+ghost use Rattle.plantfile.specs.Checks.{Table-of, Groups-of, groups-in, own-share, table-cap, longs-checked, laws-checked, groups-checked};
 ghost use Rattle.plantfile.specs.Told.{told, limit-read, allowed};
 use crate::records::Limit;
 use crate::records::long_at;
@@ -319,4 +319,19 @@ fn grades_cap(steps: &[u8], width: usize, set: usize) -> u32
         }
     }
     sum
+}
+
+// The own caps of the set's members, added up by group.
+fn own_sums(count: usize, numbers: &[u8], own: &[u32], set: usize) -> [u32; MOST_GROUPS]
+    requires groups { ⌜ Groups-of count (length (now own)) (now numbers) ⌝ }
+    requires low { ⌜ ((p : ℕ) → p < length (now own) → getD (now own) p 0 ≤ 100000) ⌝ }
+    ensures { λ r. ⌜ ((i : ℕ) → i < 16 → getD r i 0 ≡ own-share (groups-in count (now (numbers .entry)) (now (own .entry))) (length (now (own .entry))) i set) ⌝ }
+{
+    let mut sums = [0; MOST_GROUPS];
+    for position in 0..own.len() {
+        if contains(set, position) {
+            sums[group_of(numbers, count, position)] += own[position];
+        }
+    }
+    sums
 }

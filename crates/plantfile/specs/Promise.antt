@@ -16,12 +16,19 @@ use Rattle.plantformat.specs.Judge.{Draft, draft}
 use Rattle.plantformat.specs.Promise.{Plant-file}
 use Rattle.plantfile.specs.Content.{content, file-meaning}
 use Rattle.plantfile.specs.declared.file_plant.FilePlant.{FilePlant}
+use Rattle.plantfile.specs.declared.reading.Stop.{Stop}
+use Rattle.plantfile.specs.declared.reading.Stop.the-variants.{Fault, Memory}
 use Rattle.plantfile.specs.declared.reading.Verdict.{Verdict}
 use Rattle.plantfile.specs.declared.reading.Verdict.the-variants.{Accepted, Refused, NoMemory}
 
 -- the empty floor: two stations, stock 0, despatch 1, no lane
 abbrev pub empty-draft : Draft
 empty-draft = draft (record { stations = 2; stock = 0; despatch = 1 }) [] []
+
+-- the verdict on a file that was not read to its end
+abbrev pub stopped : Stop → Verdict
+stopped (Fault f) = Refused (faults.told f)
+stopped Memory = NoMemory
 
 -- ---- by the definition of the judge
 

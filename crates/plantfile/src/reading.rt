@@ -12,7 +12,7 @@ ghost use Rattle.plantfile.specs.Content.{content};
 ghost use Rattle.plantfile.specs.Parts.{limit-part, record-part};
 ghost use Rattle.plantfile.specs.Told.{told, told-side, allowed};
 ghost use Rattle.plantfile.specs.Steps.{Ranged, next-told, next-judged, grown, keeps-draft, Added, opened, opened-told, Filled};
-ghost use Rattle.plantfile.specs.Promise.{empty-draft, Judged, Promised};
+ghost use Rattle.plantfile.specs.Promise.{empty-draft, stopped, Judged, Promised};
 ghost use Rattle.plantfile.specs.declared.reading.Stop.the-variants.{Fault, Memory};
 use crate::file_plant::FilePlant;
 use crate::limits::check_limit;
@@ -168,7 +168,8 @@ impl<'a> FilePlant<'a> {
 
     // The empty floor: two stations, stock 0, despatch 1, no lane.
     fn empty(heap: Global) -> FilePlant<'a>
-        ensures { λ r. ⌜ content r ≡ empty-draft ⌝ }
+        ensures holds { λ r. ⌜ content r ≡ empty-draft ⌝ }
+        ensures limits { λ r. ⌜ vec-items (r .limits) ≡ [] ⌝ }
     {
         FilePlant { head: Head { stations: 2, stock: 0, despatch: 1 }, lanes: Vec::new(heap), limits: Vec::new(heap) }
     }
@@ -196,6 +197,16 @@ pub enum Verdict {
     NoMemory,
 }
 
+// The verdict on a file that is not read to its end.
+fn verdict_of(stop: Stop) -> Verdict
+    ensures { λ r. ⌜ r ≡ stopped stop ⌝ }
+{
+    match stop {
+        Stop::Fault(fault) => Verdict::Refused(tell(fault)),
+        Stop::Memory => Verdict::NoMemory,
+    }
+}
+
 // A file's plant together with the verdict on the file. The plant of a file that is not accepted is the empty floor.
 pub fn read_plant<'a>(heap: Global, file: &'a [u8]) -> (FilePlant<'a>, Verdict)
     ensures judged { λ r. ⌜ Judged (judge (now (file .entry))) (content (r .0)) (r .1) ⌝ }
@@ -204,7 +215,6 @@ pub fn read_plant<'a>(heap: Global, file: &'a [u8]) -> (FilePlant<'a>, Verdict)
     let mut plant = FilePlant::empty(heap);
     match plant.fill(file) {
         Ok(()) => (plant, Verdict::Accepted),
-        Err(Stop::Fault(fault)) => (FilePlant::empty(heap), Verdict::Refused(tell(fault))),
-        Err(Stop::Memory) => (FilePlant::empty(heap), Verdict::NoMemory),
+        Err(stop) => (FilePlant::empty(heap), verdict_of(stop)),
     }
 }

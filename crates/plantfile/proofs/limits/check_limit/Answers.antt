@@ -1,4 +1,0 @@
-use Rattle.plantfile.proofs.limits.check_limit.Needs as need
-
-pub returns : need.returns
-returns c = ?

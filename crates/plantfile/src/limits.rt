@@ -7,7 +7,7 @@ ghost use lib.Bits.{bitOr};
 ghost use Rattle.std.specs.declared.option.Option.the-variants.{Some};
 ghost use Rattle.polymatroid.specs.Sets.{has};
 ghost use Rattle.polymatroid.specs.Tables.{every, risesAt, bendsAt, rises, bows};
-ghost use Rattle.polymatroid.specs.Kinds.{graded};
+ghost use Rattle.polymatroid.specs.Kinds.{graded, grouped};
 ghost use Rattle.floor.specs.Numbers.{top-cap};
 ghost use Rattle.plantformat.specs.Numbers.{top-lane};
 ghost use Rattle.plantformat.specs.Records.{cap-by};
@@ -334,4 +334,18 @@ fn own_sums(count: usize, numbers: &[u8], own: &[u32], set: usize) -> [u32; MOST
         }
     }
     sums
+}
+
+// The cap of a set under groups: from the highest down, each group passes what has reached it, up to its bound, to its parent.
+fn groups_cap(count: usize, numbers: &[u8], own: &[u32], set: usize) -> u32
+    requires groups { ⌜ Groups-of count (length (now own)) (now numbers) ⌝ }
+    requires low { ⌜ ((p : ℕ) → p < length (now own) → getD (now own) p 0 ≤ 100000) ⌝ }
+    ensures { λ r. ⌜ r ≡ grouped (groups-in count (now (numbers .entry)) (now (own .entry))) (length (now (own .entry))) set ⌝ }
+{
+    let mut sums = own_sums(count, numbers, own, set);
+    for group in (1..count).rev() {
+        let passed = sums[group].min(bound_of(numbers, group));
+        sums[parent_of(numbers, group)] += passed;
+    }
+    sums[0].min(bound_of(numbers, 0))
 }

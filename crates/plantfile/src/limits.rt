@@ -349,3 +349,22 @@ fn groups_cap(count: usize, numbers: &[u8], own: &[u32], set: usize) -> u32
     }
     sums[0].min(bound_of(numbers, 0))
 }
+
+// The cap of a set of positions under a limit that keeps the rules, on a side whose lanes have these own caps.
+pub fn cap_of(limit: Limit, own: &[u32], set: usize) -> u32
+    requires keeps { ⌜ limit-keeps (length (now own)) (told limit) ≡ true ⌝ }
+    requires narrow { ⌜ length (now own) ≤ 8 ⌝ }
+    requires low { ⌜ ((p : ℕ) → p < length (now own) → getD (now own) p 0 ≤ 100000) ⌝ }
+    requires on { ⌜ set < 2 ^ length (now own) ⌝ }
+    ensures { λ r. ⌜ r ≡ cap-by (length (now (own .entry))) (λ p. getD (now (own .entry)) p 0) (Some (told (limit .entry))) set ⌝ }
+{
+    // The first law: no lane, no trays.
+    if set == 0 {
+        return 0;
+    }
+    match limit {
+        Limit::Table { caps, .. } => nth_long(caps, set),
+        Limit::Groups { count, numbers, .. } => groups_cap(count, numbers, own, set),
+        Limit::Grades { steps, .. } => grades_cap(steps, own.len(), set),
+    }
+}

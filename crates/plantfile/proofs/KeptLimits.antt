@@ -1,14 +1,12 @@
 -- What a limit that keeps the rules says of its bytes, and that it gives the empty set cap 0.
 use mathlib.Core.Path.{_≡_, refl, sym, ap, _∙_}
-use mathlib.Core.Bool.{Bool, true, false, cond}
+use mathlib.Core.Bool.{true}
 use mathlib.Core.List.{List}
-use Prim.Native.Nat.{ℕ, zero, suc, _+_, _-_, _*_, _/_, _^_, _≤_, _<_}
+use Prim.Native.Nat.{ℕ, zero, suc, _^_, _≤_, _<_}
 use native.Mathlib.Omega.{arith}
-use lib.Dec.{eqb, leb}
 use lib.ListN.{length, getD}
 use Rattle.std.specs.declared.option.Option.the-variants.{Some}
-use Rattle.std.proofs.shelf.Tests.{and-parts, eqb-true, leb-true}
-use Rattle.polymatroid.specs.Sets.{has}
+use Rattle.std.proofs.shelf.Tests.{eqb-true, leb-true}
 use Rattle.polymatroid.specs.Side.{load}
 use Rattle.polymatroid.specs.Tables.{broken}
 use Rattle.polymatroid.specs.Kinds.{size, firsts, graded, grouped, Ordered}
@@ -19,13 +17,13 @@ use Rattle.floor.specs.Numbers.{top-cap}
 use Rattle.plantformat.specs.Numbers.{top-lane, most-groups}
 use Rattle.plantformat.specs.Records as format
 use Rattle.plantformat.specs.Records.{table, groups, grades, grouping, cap-by}
-use Rattle.plantformat.specs.Rules.{limit-keeps, all-at-most, all-below, parents-keep, steps-fall}
+use Rattle.plantformat.specs.Rules.{limit-keeps, all-at-most, all-below, parents-keep}
 use Rattle.plantformat.specs.Judge.{longs, parents-at, bounds-at, members-at}
 use Rattle.plantfile.specs.declared.records.Limit.{Limit}
 use Rattle.plantfile.specs.declared.records.Limit.the-variants.{Table, Groups, Grades}
 use Rattle.plantfile.specs.Told.{told, positions}
-use Rattle.plantfile.specs.Checks.{Groups-of, groups-in}
-use Rattle.plantfile.proofs.Checked.{length-longs, length-parents, length-bounds, length-members, parents-keep-at}
+use Rattle.plantfile.specs.Checks.{Groups-of}
+use Rattle.plantfile.proofs.Checked.{length-parents, length-members, parents-keep-at}
 
 -- a set that is not empty has a position
 pub some-position : (k X : ℕ) → X < 2 ^ k → (X ≡ 0 → ⊥) → 1 ≤ k

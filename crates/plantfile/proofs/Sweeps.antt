@@ -1,10 +1,9 @@
 -- The sweep over groups from the highest down, one group at a time, over a list with what has reached each.
 use mathlib.Core.Path.{_≡_, refl, sym, ap, _∙_}
-use mathlib.Core.Bool.{Bool, true, false, cond}
+use mathlib.Core.Bool.{cond}
 use mathlib.Core.List.{List}
 use Prim.Native.Nat.{ℕ, zero, suc, _+_, _-_, _*_, min, _≤_, _<_}
 use native.Mathlib.Omega.{arith}
-use native.Mathlib.Numerals.{add-one}
 use native.Mathlib.Nat.{suc-mul}
 use lib.Dec.{eqb}
 use lib.ListN.{length, getD, set}
@@ -13,10 +12,10 @@ use Rattle.polymatroid.specs.Kinds.{Groups, Ordered, own, grouped}
 use Rattle.polymatroid.specs.More.{reached, swept}
 use Rattle.polymatroid.proofs.More.{sweep-agrees}
 use Rattle.floor.specs.Numbers.{top-cap}
-use Rattle.plantformat.specs.Bytes.{word, long}
+use Rattle.plantformat.specs.Bytes.{word}
 use Rattle.plantformat.specs.Judge.{parents-at, bounds-at}
 use Rattle.plantfile.specs.Checks.{Groups-of, groups-in}
-use Rattle.plantfile.proofs.Checked.{length-parents, length-bounds, parents-is, bounds-is, parents-keep-at, at-most-at}
+use Rattle.plantfile.proofs.Checked.{length-parents, length-bounds, parents-is, parents-keep-at, at-most-at}
 use Rattle.plantfile.proofs.CapSums.{added-at}
 
 -- ---- the groups in the bytes

@@ -1,12 +1,12 @@
 use borrow.Author.Needs.{needs}
-use mathlib.Core.Path.{_≡_, sym, ap, subst, _∙_}
-use Prim.Native.Nat.{ℕ, suc, _-_, _<_, _≤_, min}
+use mathlib.Core.Path.{_≡_, sym, ap, _∙_}
+use Prim.Native.Nat.{ℕ, suc, _-_, _≤_, min}
 use native.Mathlib.Omega.{arith}
 use lib.ListN.{length, getD, set}
 use Rattle.std.proofs.shelf.Lists.{length-set}
 use Rattle.polymatroid.specs.Kinds.{Groups, own}
 use Rattle.polymatroid.specs.More.{reached}
-use Rattle.plantformat.specs.Judge.{parents-at, bounds-at}
+use Rattle.plantformat.specs.Judge.{parents-at}
 use Rattle.plantfile.specs.Checks.{groups-in}
 use Rattle.plantfile.proofs.Checked.{length-parents, parents-is, bounds-is}
 use Rattle.plantfile.proofs.CapSums.{own-low}
@@ -55,13 +55,14 @@ loop-group-again c =
     parents-is (c .args .numbers .now) (c .args .count) j (omega arith) ∙ sym (c .parent-of .ensures) in
     let bound = bounds-is (c .args .numbers .now) (c .args .count) j (omega arith) in
     let passed = c .min-passed .ensures ∙ ap (min (getD xs j 0)) (c .bound-of .ensures ∙ sym bound) in
-    let steps : c .args .count - j ≡ suc (c .args .count - c .loop-group .group) = omega arith in
-    ( length-set xs p _ ∙ size
-    , omega arith
-    , λ i l.
-        passed-up G k (c .args .set) (c .args .count - c .loop-group .group) j p (c .min-passed .result) xs (c .loop-group .inv .2) (omega arith)
-        (omega arith) (omega arith) parent passed i l
-        ∙ ap (λ n. reached G k (c .args .set) n i) (sym steps) )
+    let steps : c .args .count - j ≡ suc (c .args .count - c .loop-group .group) = omega arith in (
+      length-set xs p _ ∙ size,
+      omega arith,
+      λ i l.
+          passed-up G k (c .args .set) (c .args .count - c .loop-group .group) j p (c .min-passed .result) xs (c .loop-group .inv .2) (omega arith)
+          (omega arith) (omega arith) parent passed i l
+          ∙ ap (λ n. reached G k (c .args .set) n i) (sym steps),
+    )
 
 pub returns : need.returns
 returns c =

@@ -1,9 +1,9 @@
 -- The sums that make a cap, one position or one group at a time.
 use mathlib.Core.Path.{_≡_, refl, sym, ap, _∙_}
-use mathlib.Core.Bool.{Bool, true, false, cond}
+use mathlib.Core.Bool.{true, false, cond}
 use mathlib.Core.Logic.{inl, inr}
 use mathlib.Core.List.{List}
-use Prim.Native.Nat.{ℕ, zero, suc, _+_, _-_, _*_, min, _≤_, _<_}
+use Prim.Native.Nat.{ℕ, zero, suc, _+_, _*_, _≤_, _<_}
 use native.Mathlib.Omega.{arith}
 use native.Mathlib.Numerals.{add-one}
 use native.Mathlib.Nat.{suc-mul}
@@ -15,9 +15,9 @@ use Rattle.std.proofs.shelf.Ways.{tells}
 use Rattle.polymatroid.specs.Sets.{has}
 use Rattle.polymatroid.specs.Side.{load}
 use Rattle.polymatroid.specs.Kinds.{size, firsts, Groups, own}
-use Rattle.plantformat.specs.Bytes.{word, long}
-use Rattle.plantformat.specs.Judge.{parents-at, bounds-at, members-at}
-use Rattle.plantfile.specs.Checks.{Groups-of, groups-in}
+use Rattle.plantformat.specs.Bytes.{word}
+use Rattle.plantformat.specs.Judge.{members-at}
+use Rattle.plantfile.specs.Checks.{Groups-of}
 use Rattle.plantfile.proofs.Checked.{length-members, members-is, below-at}
 
 -- ---- grades

@@ -1,22 +1,21 @@
 -- A limit that is read is the one that its bytes tell, and keeps the rules.
-use mathlib.Core.Path.{_≡_, refl, sym, ap, _∙_}
-use mathlib.Core.Bool.{Bool, true, false, cond, not, _&&_, _||_}
+use mathlib.Core.Path.{_≡_, refl, ap, _∙_}
+use mathlib.Core.Bool.{true, false, _&&_, _||_}
 use mathlib.Core.List.{List}
-use Prim.Native.Nat.{ℕ, _+_, _-_, _*_, _/_, _^_, _≤_, _<_}
+use Prim.Native.Nat.{ℕ, _+_, _*_, _^_}
 use native.Mathlib.Omega.{arith}
-use lib.Dec.{eqb, leb, ltb}
+use lib.Dec.{eqb, ltb}
 use lib.ListN.{length, getD}
-use Rattle.std.specs.declared.result.Result.{Result}
-use Rattle.std.specs.declared.result.Result.the-variants.{Ok, Err}
+use Rattle.std.specs.declared.result.Result.the-variants.{Ok}
 use Rattle.std.proofs.shelf.Ways.{tells}
-use Rattle.std.proofs.shelf.Tests.{eqb-true, eq-eqb, not-false, and-parts, and-from, leb-true, ltb-true}
-use Rattle.polymatroid.specs.Tables.{rises, bows, broken}
+use Rattle.std.proofs.shelf.Tests.{eqb-true, eq-eqb, and-from}
+use Rattle.polymatroid.specs.Tables.{broken}
 use Rattle.floor.specs.Numbers.{top-cap}
 use Rattle.plantformat.specs.Numbers.{top-lane, most-groups}
 use Rattle.plantformat.specs.Records as format
 use Rattle.plantformat.specs.Records.{table, groups, grades, side-of}
 use Rattle.plantformat.specs.Rules.{limit-keeps, all-at-most, all-below, parents-keep, steps-fall}
-use Rattle.plantformat.specs.Judge.{unless, longs, parents-at, bounds-at, members-at, table-read, groups-read, grades-read}
+use Rattle.plantformat.specs.Judge.{longs, parents-at, bounds-at, members-at, table-read, groups-read, grades-read}
 use Rattle.plantfile.specs.declared.records.Limit.{Limit}
 use Rattle.plantfile.specs.declared.records.Limit.the-variants.{Table, Groups, Grades}
 use Rattle.plantfile.specs.Told.{told, told-side, limit-read, positions}

@@ -6,7 +6,7 @@ use Prim.Native.Nat.{ℕ, _+_, _*_, _^_, _≤_}
 use lib.Dec.{eqb, ltb}
 use lib.ListN.{length, getD}
 use Rattle.std.specs.declared.result.Result.{Result}
-use Rattle.std.specs.declared.result.Result.the-variants.{Ok, Err}
+use Rattle.std.specs.declared.result.Result.the-variants.{Ok}
 use Rattle.polymatroid.specs.Tables.{rises, bows}
 use Rattle.polymatroid.specs.Kinds.{Groups, own}
 use Rattle.floor.specs.Numbers.{most-on-side, top-cap}

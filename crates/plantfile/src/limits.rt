@@ -7,9 +7,9 @@ ghost use lib.Bits.{bitOr};
 ghost use Rattle.std.specs.declared.option.Option.the-variants.{Some};
 ghost use Rattle.polymatroid.specs.Sets.{has};
 ghost use Rattle.polymatroid.specs.Tables.{every, risesAt, bendsAt, rises, bows};
-ghost use Rattle.polymatroid.specs.Kinds.{graded};
-ghost use Rattle.floor.specs.Numbers.{top-cap};
-ghost use Rattle.plantformat.specs.Numbers.{top-lane};
+ghost use Rattle.polymatroid.specs.Kinds.{graded, grouped};
+ghost use Rattle.floor.specs.Numbers.{most-on-side, top-cap};
+ghost use Rattle.plantformat.specs.Numbers.{top-lane, most-groups};
 ghost use Rattle.plantformat.specs.Records.{cap-by};
 ghost use Rattle.plantformat.specs.Bytes.{word, long};
 ghost use Rattle.plantformat.specs.Rules.{limit-keeps, all-at-most, all-below, parents-keep, steps-fall};
@@ -145,7 +145,7 @@ fn members_grouped(numbers: &[u8], count: usize, width: usize) -> bool
     true
 }
 
-// No position more lowers the cap of the set.
+// Adding a position never lowers the cap of this set.
 fn set_rises(caps: &[u8], width: usize, set: usize) -> bool
     requires table { ⌜ Table-of width (now caps) ⌝ }
     requires on { ⌜ set < 2 ^ width ⌝ }
@@ -161,7 +161,7 @@ fn set_rises(caps: &[u8], width: usize, set: usize) -> bool
     true
 }
 
-// No set of the table has its cap lowered by a position more.
+// Law 2: adding a position never lowers the cap, whatever the set.
 fn table_rises(caps: &[u8], width: usize) -> bool
     requires table { ⌜ Table-of width (now caps) ⌝ }
     ensures { λ r. ⌜ r ≡ rises width (table-cap (now (caps .entry))) ⌝ }
@@ -188,7 +188,7 @@ fn pair_bends(caps: &[u8], set: usize, p: usize, q: usize) -> bool
     together <= apart
 }
 
-// No two positions bring more to the set together than each alone.
+// No two positions bring more to this set together than each alone.
 fn set_bends(caps: &[u8], width: usize, set: usize) -> bool
     requires table { ⌜ Table-of width (now caps) ⌝ }
     requires on { ⌜ set < 2 ^ width ⌝ }
@@ -204,7 +204,7 @@ fn set_bends(caps: &[u8], width: usize, set: usize) -> bool
     true
 }
 
-// No set of the table gets more from two positions together than from each alone.
+// Law 3: no two positions bring more together than each alone, whatever the set.
 fn table_bends(caps: &[u8], width: usize) -> bool
     requires table { ⌜ Table-of width (now caps) ⌝ }
     ensures { λ r. ⌜ r ≡ bows width (table-cap (now (caps .entry))) ⌝ }
@@ -237,20 +237,29 @@ fn check_laws(caps: &[u8], width: usize, at: usize) -> Result<(), LimitFault>
     ensures { λ r. ⌜ r ≡ laws-checked width at (now (caps .entry)) ⌝ }
 {
     if nth_long(caps, 0) != 0 {
-        return Err(LimitFault::Breaks { at, law: Law::Empty });
+        return Err(LimitFault::Breaks {
+            at,
+            law: Law::Empty,
+        });
     }
     if !table_rises(caps, width) {
-        return Err(LimitFault::Breaks { at, law: Law::Grows });
+        return Err(LimitFault::Breaks {
+            at,
+            law: Law::Grows,
+        });
     }
     if !table_bends(caps, width) {
-        return Err(LimitFault::Breaks { at, law: Law::Bends });
+        return Err(LimitFault::Breaks {
+            at,
+            law: Law::Bends,
+        });
     }
     Ok(())
 }
 
 // A table: a cap for each set, then the laws.
 fn check_table(caps: &[u8], width: usize, at: usize) -> Result<(), FloorFault>
-    requires { ⌜ width ≤ 8 ⌝ }
+    requires { ⌜ width ≤ most-on-side ⌝ }
     ensures { λ r. ⌜ ((s : ℕ) → r ≡ allowed (table-read width at s (now (caps .entry)))) ⌝ }
 {
     check_longs(caps, 1 << width, TOP_CAP, at)?;
@@ -260,7 +269,7 @@ fn check_table(caps: &[u8], width: usize, at: usize) -> Result<(), FloorFault>
 
 // Groups: how many there are, then the size, then the parents, bounds and members.
 fn check_groups(count: usize, numbers: &[u8], width: usize, at: usize) -> Result<(), RecordFault>
-    requires { ⌜ width ≤ 8 ⌝ }
+    requires { ⌜ width ≤ most-on-side ⌝ }
     ensures { λ r. ⌜ r ≡ groups-checked count width at (now (numbers .entry)) ⌝ }
 {
     if count < 1 || count > MOST_GROUPS {
@@ -280,19 +289,22 @@ fn check_groups(count: usize, numbers: &[u8], width: usize, at: usize) -> Result
 
 // Grades: one for each position, then law 3.
 fn check_grades(steps: &[u8], width: usize, at: usize) -> Result<(), FloorFault>
-    requires { ⌜ width ≤ 8 ⌝ }
+    requires { ⌜ width ≤ most-on-side ⌝ }
     ensures { λ r. ⌜ ((s : ℕ) → r ≡ allowed (grades-read width at s (now (steps .entry)))) ⌝ }
 {
     check_longs(steps, width, TOP_LANE, at)?;
     if !steps_fall(steps, width) {
-        return Err(FloorFault::Limit(LimitFault::Breaks { at, law: Law::Bends }));
+        return Err(FloorFault::Limit(LimitFault::Breaks {
+            at,
+            law: Law::Bends,
+        }));
     }
     Ok(())
 }
 
 // A limit of a side of `width` lanes, whose record lies at the place `at` of the file.
 pub fn check_limit(limit: Limit, width: usize, at: usize) -> Result<(), FloorFault>
-    requires { ⌜ width ≤ 8 ⌝ }
+    requires { ⌜ width ≤ most-on-side ⌝ }
     ensures { λ r. ⌜ r ≡ allowed (limit-read width at (limit .entry)) ⌝ }
 {
     match limit {
@@ -305,7 +317,7 @@ pub fn check_limit(limit: Limit, width: usize, at: usize) -> Result<(), FloorFau
 
 // The sum of as many first grades as the set has members.
 fn grades_cap(steps: &[u8], width: usize, set: usize) -> u32
-    requires narrow { ⌜ width ≤ 8 ⌝ }
+    requires narrow { ⌜ width ≤ most-on-side ⌝ }
     requires whole { ⌜ length (longs (now steps)) ≡ width ⌝ }
     requires low { ⌜ all-at-most top-lane (longs (now steps)) ≡ true ⌝ }
     ensures { λ r. ⌜ r ≡ graded (λ j. getD (longs (now (steps .entry))) j 0) width set ⌝ }
@@ -324,8 +336,8 @@ fn grades_cap(steps: &[u8], width: usize, set: usize) -> u32
 // The own caps of the set's members, added up by group.
 fn own_sums(count: usize, numbers: &[u8], own: &[u32], set: usize) -> [u32; MOST_GROUPS]
     requires groups { ⌜ Groups-of count (length (now own)) (now numbers) ⌝ }
-    requires low { ⌜ ((p : ℕ) → p < length (now own) → getD (now own) p 0 ≤ 100000) ⌝ }
-    ensures { λ r. ⌜ ((i : ℕ) → i < 16 → getD r i 0 ≡ own-share (groups-in count (now (numbers .entry)) (now (own .entry))) (length (now (own .entry))) i set) ⌝ }
+    requires low { ⌜ ((p : ℕ) → p < length (now own) → getD (now own) p 0 ≤ top-lane) ⌝ }
+    ensures { λ r. ⌜ ((i : ℕ) → i < most-groups → getD r i 0 ≡ own-share (groups-in count (now (numbers .entry)) (now (own .entry))) (length (now (own .entry))) i set) ⌝ }
 {
     let mut sums = [0; MOST_GROUPS];
     for position in 0..own.len() {
@@ -336,13 +348,35 @@ fn own_sums(count: usize, numbers: &[u8], own: &[u32], set: usize) -> [u32; MOST
     sums
 }
 
-// stub
+// The cap of a set under groups: from the highest down, each group passes what has reached it, up to its bound, to its parent.
+fn groups_cap(count: usize, numbers: &[u8], own: &[u32], set: usize) -> u32
+    requires groups { ⌜ Groups-of count (length (now own)) (now numbers) ⌝ }
+    requires low { ⌜ ((p : ℕ) → p < length (now own) → getD (now own) p 0 ≤ top-lane) ⌝ }
+    ensures { λ r. ⌜ r ≡ grouped (groups-in count (now (numbers .entry)) (now (own .entry))) (length (now (own .entry))) set ⌝ }
+{
+    let mut sums = own_sums(count, numbers, own, set);
+    for group in (1..count).rev() {
+        let passed = sums[group].min(bound_of(numbers, group));
+        sums[parent_of(numbers, group)] += passed;
+    }
+    sums[0].min(bound_of(numbers, 0))
+}
+
+// The cap of a set of positions under a limit that keeps the rules, on a side whose lanes have these own caps.
 pub fn cap_of(limit: Limit, own: &[u32], set: usize) -> u32
     requires keeps { ⌜ limit-keeps (length (now own)) (told limit) ≡ true ⌝ }
-    requires narrow { ⌜ length (now own) ≤ 8 ⌝ }
-    requires low { ⌜ ((p : ℕ) → p < length (now own) → getD (now own) p 0 ≤ 100000) ⌝ }
+    requires narrow { ⌜ length (now own) ≤ most-on-side ⌝ }
+    requires low { ⌜ ((p : ℕ) → p < length (now own) → getD (now own) p 0 ≤ top-lane) ⌝ }
     requires on { ⌜ set < 2 ^ length (now own) ⌝ }
     ensures { λ r. ⌜ r ≡ cap-by (length (now (own .entry))) (λ p. getD (now (own .entry)) p 0) (Some (told (limit .entry))) set ⌝ }
 {
-    0
+    // The first law: no lane, no trays.
+    if set == 0 {
+        return 0;
+    }
+    match limit {
+        Limit::Table { caps, .. } => nth_long(caps, set),
+        Limit::Groups { count, numbers, .. } => groups_cap(count, numbers, own, set),
+        Limit::Grades { steps, .. } => grades_cap(steps, own.len(), set),
+    }
 }

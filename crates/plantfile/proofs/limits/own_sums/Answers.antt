@@ -1,12 +1,11 @@
 use mathlib.Core.Path.{_≡_, refl, sym, ap, _∙_}
-use Prim.Native.Nat.{ℕ}
 use native.Mathlib.Omega.{arith}
 use lib.ListN.{length, getD}
 use Rattle.std.proofs.shelf.Lists.{getD-replicate, length-set}
 use Rattle.polymatroid.specs.Kinds.{Groups}
 use Rattle.plantfile.specs.Checks.{groups-in}
 use Rattle.plantfile.proofs.Checked.{members-is}
-use Rattle.plantfile.proofs.CapSums.{own-none, own-with, own-without, own-low, own-added, member-on}
+use Rattle.plantfile.proofs.CapSums.{own-none, own-without, own-low, own-added, member-on}
 use Rattle.plantfile.proofs.limits.own_sums.Needs as need
 use Rattle.plantfile.proofs.limits.own_sums.Needs.{then-contains, else-contains}
 
@@ -41,12 +40,14 @@ loop-position-again c =
           let j = w .group-of .result in
           let on = member-on (c .pre .groups) p (c .loop-position-test .taken) in
           let group : G .group p ≡ j =
-          members-is (c .args .numbers .now) (length (c .args .own .now)) (c .args .count) p (c .loop-position-test .taken) ∙ sym (w .group-of .ensures) in
-          ( ap length (w .sums-is) ∙ length-set xs j _ ∙ size
-          , own-added G (c .args .set) p j xs (c .if-contains .sums) (c .loop-position .inv .1) (sym (w .if-contains .ensures tt)) (omega (arith, w .group-of .ensures)) group
-            (w .sums-is) )
-      | else-contains w ↦
-          ( ap length (w .sums-is) ∙ size
-          , λ i l.
-              ap (λ zs. getD zs i 0) (w .sums-is) ∙ c .loop-position .inv .1 i l ∙ sym (own-without G i (c .args .set) p (sym (w .if-contains .ensures tt))) )
+          members-is (c .args .numbers .now) (length (c .args .own .now)) (c .args .count) p (c .loop-position-test .taken) ∙ sym (w .group-of .ensures) in (
+            ap length (w .sums-is) ∙ length-set xs j _ ∙ size,
+            own-added G (c .args .set) p j xs (c .if-contains .sums) (c .loop-position .inv .1) (sym (w .if-contains .ensures tt)) (omega (arith, w .group-of .ensures)) group
+                (w .sums-is),
+          )
+      | else-contains w ↦ (
+        ap length (w .sums-is) ∙ size,
+        λ i l.
+            ap (λ zs. getD zs i 0) (w .sums-is) ∙ c .loop-position .inv .1 i l ∙ sym (own-without G i (c .args .set) p (sym (w .if-contains .ensures tt))),
+      )
     ]

@@ -1,9 +1,7 @@
 use borrow.Author.Count.{below-more}
 use mathlib.Core.Path.{_≡_, sym, ap}
 use mathlib.Core.Bool.{true}
-use Prim.Native.Nat.{_^_}
 use native.Mathlib.Omega.{arith}
-use lib.Bits.{bitOr}
 use Rattle.std.proofs.shelf.Ways.{tells}
 use Rattle.polymatroid.specs.Tables.{risesAt}
 use Rattle.polymatroid.proofs.Tables.{every-from}

@@ -23,7 +23,7 @@ use Rattle.plantformat.proofs.Lawful.{own-at-low}
 use Rattle.plantformat.specs.Numbers.{top-lane}
 use Rattle.plantformat.specs.Rules.{Rules}
 use Rattle.std.specs.Of.Vec.{vec-items, vec-len}
-use Rattle.plantfile.specs.Told.{told}
+use Rattle.limits.specs.Told.{told}
 use Rattle.plantfile.specs.Content.{file-meaning}
 use Rattle.plantfile.specs.Answers.{Lists, owns}
 use Rattle.plantfile.specs.declared.file_plant.FilePlant.{FilePlant}

@@ -30,7 +30,7 @@ use Rattle.plantfile.specs.Steps.{Filled}
 use Rattle.plantfile.specs.Promise.{empty-draft, stopped, Judged, File-refusal, Promised}
 use Rattle.plantfile.specs.declared.reading.Stop.{Stop}
 use Rattle.plantfile.specs.declared.reading.Stop.the-variants.{Fault, Memory}
-use Rattle.plantfile.specs.Told.{told}
+use Rattle.limits.specs.Told.{told}
 use Rattle.plantfile.specs.declared.file_plant.FilePlant.{FilePlant}
 use Rattle.plantfile.specs.declared.reading.Verdict.{Verdict}
 use Rattle.plantfile.specs.declared.reading.Verdict.the-variants.{Accepted, Refused, NoMemory}

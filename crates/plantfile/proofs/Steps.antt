@@ -24,10 +24,10 @@ use Rattle.plantformat.specs.Rules.{lane-ranged, keeps}
 use Rattle.plantformat.specs.Judge.{onward, unless, Part, a-lane, a-table, a-groups, a-grades, Frame, Draft, draft, framed, lane-at, lane-read, laned, fixed-part, part-read, recorded, placed, lanes-may-come, with-rest, crowded, width-of}
 use Rattle.plantformat.proofs.Tests.{keeps-rules}
 use Rattle.plantformat.proofs.Verdicts.{unless-ok, unless-not-ok, onward-ok, with-rest-ok, ok-same}
-use Rattle.plantfile.specs.Told.{told, allowed}
+use Rattle.limits.specs.Told.{told, allowed}
 use Rattle.plantfile.specs.Content.{content}
 use Rattle.plantfile.specs.Steps.{Ranged, next-judged, grown, keeps-draft}
-use Rattle.plantfile.specs.declared.records.Limit as code
+use Rattle.limits.specs.declared.Limit as code
 use Rattle.plantfile.specs.declared.records.Record as code-record
 use Rattle.plantfile.specs.declared.records.Record.the-variants as record-of
 use Rattle.plantfile.specs.declared.file_plant.FilePlant.{FilePlant}

@@ -11,8 +11,8 @@ use Rattle.plantformat.specs.declared.RecordFault.{RecordFault}
 use Rattle.plantformat.specs.declared.RecordFault.the-variants as rec
 use Rattle.plantformat.specs.Bytes.{word}
 use Rattle.plantformat.specs.Judge.{unless, Part, a-lane, a-table, a-groups, a-grades}
-use Rattle.plantfile.specs.declared.records.Limit.{Limit}
-use Rattle.plantfile.specs.declared.records.Limit.the-variants.{Table, Groups, Grades}
+use Rattle.limits.specs.declared.Limit.{Limit}
+use Rattle.limits.specs.declared.Limit.the-variants.{Table, Groups, Grades}
 use Rattle.plantfile.specs.declared.records.Record as code
 use Rattle.plantfile.specs.declared.records.Record.the-variants as record-of
 use Rattle.plantfile.specs.declared.records.First.{First}

@@ -14,7 +14,7 @@ use Rattle.plantformat.specs.declared.FloorFault.the-variants as flo
 use Rattle.plantformat.specs.Rules.{lane-ranged, keeps}
 use Rattle.plantformat.specs.Judge.{onward, unless, headed, Part, a-lane, a-table, a-groups, a-grades, Draft, draft, recorded, placed, lanes-may-come}
 use Rattle.plantfile.specs.Parts.{record-part}
-use Rattle.plantfile.specs.Told.{told}
+use Rattle.limits.specs.Told.{told}
 use Rattle.plantfile.specs.declared.reading.Stop.{Stop}
 use Rattle.plantfile.specs.declared.reading.Stop.the-variants.{Fault, Memory}
 use Rattle.plantfile.specs.declared.records.First.{First}

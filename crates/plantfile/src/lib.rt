@@ -8,7 +8,6 @@
 // that keep the rules, and that the plant then means what those records define; a refused file leaves the empty floor.
 mod file_plant;
 mod framing;
-mod limits;
 mod questions;
 mod reading;
 mod records;

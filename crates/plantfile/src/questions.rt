@@ -7,13 +7,13 @@ ghost use Rattle.std.specs.Of.Vec.{vec-items};
 ghost use Rattle.plantformat.specs.Records.{lane-end, limit-of, side-of};
 ghost use Rattle.plantformat.proofs.Lawful.{kept-lawful};
 ghost use Rattle.plantfile.specs.Content.{file-meaning};
-ghost use Rattle.plantfile.specs.Told.{told, told-side};
+ghost use Rattle.limits.specs.Told.{told, told-side};
 ghost use Rattle.plantfile.specs.Answers.{Lists, owns, Owns, limit-cap, limit-seen};
 ghost use Rattle.std.specs.declared.option.Option.the-variants.{None};
 use crate::file_plant::FilePlant;
-use crate::limits::cap_of;
-use crate::limits::contains;
-use crate::records::Limit;
+use limits::Limit;
+use limits::cap_of;
+use limits::contains;
 use plant::MOST_ON_SIDE;
 use plant::OffFloor;
 use plant::Plant;
@@ -32,17 +32,6 @@ fn lane_end(lane: Lane, entering: bool) -> usize
     ensures { λ r. ⌜ r ≡ lane-end entering lane ⌝ }
 {
     if entering { lane.to } else { lane.from }
-}
-
-// The side that a limit is for.
-pub(crate) fn limit_side(limit: Limit) -> usize
-    ensures { λ r. ⌜ r ≡ side-of (told (limit .entry)) ⌝ }
-{
-    match limit {
-        Limit::Table { side, .. } => side,
-        Limit::Groups { side, .. } => side,
-        Limit::Grades { side, .. } => side,
-    }
 }
 
 impl<'a> FilePlant<'a> {
@@ -69,7 +58,7 @@ impl<'a> FilePlant<'a> {
         ensures { λ r. ⌜ limit-seen r ≡ limit-of side (map told (vec-items (now (self .entry) .limits))) ⌝ }
     {
         for limit in self.limits.iter() {
-            if limit_side(*limit) == side {
+            if limit.side() == side {
                 return Some(*limit);
             }
         }

@@ -10,19 +10,18 @@ ghost use Rattle.plantformat.specs.Rules.{lane-leads, lane-ranged};
 ghost use Rattle.plantformat.specs.Judge.{crowded, judge, lane-placed, placed, width-of};
 ghost use Rattle.plantfile.specs.Content.{content};
 ghost use Rattle.plantfile.specs.Parts.{limit-part, record-part};
-ghost use Rattle.plantfile.specs.Told.{told, told-side, allowed};
+ghost use Rattle.limits.specs.Told.{told, told-side, allowed};
 ghost use Rattle.plantfile.specs.Steps.{Ranged, next-told, next-judged, grown, keeps-draft, Added, opened, opened-told, Filled};
 ghost use Rattle.plantfile.specs.Promise.{empty-draft, stopped, Judged, Promised};
 ghost use Rattle.plantfile.specs.declared.reading.Stop.the-variants.{Fault, Memory};
 use crate::file_plant::FilePlant;
-use crate::limits::check_limit;
-use crate::questions::limit_side;
 use crate::records::First;
-use crate::records::Limit;
 use crate::records::Next;
 use crate::records::Record;
 use crate::records::first_record;
 use crate::records::next_record;
+use limits::Limit;
+use limits::check_limit;
 use plant::MOST_LANES;
 use plant::MOST_ON_SIDE;
 use plant::Refusal;
@@ -110,7 +109,7 @@ impl<'a> FilePlant<'a> {
         requires { ⌜ told-side limit < 2 * now self .head .stations ⌝ }
         ensures { λ r. ⌜ r ≡ allowed (placed (content (now (self .entry))) at (limit-part (limit .entry))) ⌝ }
     {
-        let side = limit_side(limit);
+        let side = limit.side();
         if self.limit_of(side).is_some() {
             return Err(FloorFault::SecondLimit { at });
         }

@@ -7,6 +7,9 @@ ghost use Rattle.plantformat.specs.Rules.{head-keeps, lane-ranged};
 ghost use Rattle.plantformat.specs.Judge.{head-read, lane-read, part-read, headed, recorded};
 ghost use Rattle.plantfile.specs.Parts.{side-read, record-shown, first-shown, next-shown};
 use crate::framing::first_frame;
+use limits::Limit;
+use limits::long_at;
+use limits::word_at;
 use plant::MOST_STATIONS;
 use plantformat::Head;
 use plantformat::Kind;
@@ -14,15 +17,6 @@ use plantformat::Lane;
 use plantformat::RecordFault;
 use plantformat::RecordFromFraming;
 use plantformat::TOP_LANE;
-
-// A limit of a side, which borrows its numbers from the file: the caps of a table, the groups and the positions' groups of a
-// groups record, or the grades.
-#[derive(Clone, Copy)]
-pub enum Limit<'a> {
-    Table { side: usize, caps: &'a [u8] },
-    Groups { side: usize, count: usize, numbers: &'a [u8] },
-    Grades { side: usize, steps: &'a [u8] },
-}
 
 // A record after the head.
 #[derive(Clone, Copy)]
@@ -43,22 +37,6 @@ pub struct First<'a> {
 pub struct Next<'a> {
     pub record: Record<'a>,
     pub rest: &'a [u8],
-}
-
-// The two-byte number at a place.
-pub fn word_at(bytes: &[u8], at: usize) -> usize
-    requires { ⌜ at + 2 ≤ length (now bytes) ⌝ }
-    ensures { λ r. ⌜ r ≡ word (now (bytes .entry)) at ⌝ }
-{
-    usize::from(u16::from_le_bytes([bytes[at], bytes[at + 1]]))
-}
-
-// The four-byte number at a place.
-pub fn long_at(bytes: &[u8], at: usize) -> u32
-    requires { ⌜ at + 4 ≤ length (now bytes) ⌝ }
-    ensures { λ r. ⌜ r ≡ long (now (bytes .entry)) at ⌝ }
-{
-    u32::from_le_bytes([bytes[at], bytes[at + 1], bytes[at + 2], bytes[at + 3]])
 }
 
 // The numbers of a head are in their ranges.

@@ -7,7 +7,7 @@ use lib.ListN.{length, replicate}
 use Rattle.std.specs.Of.Vec.{vec-items, vec-len}
 use Rattle.floor.specs.Floor.{on, end-of, station-of}
 use Rattle.plantformat.specs.Records.{floor-of}
-use Rattle.plantfile.specs.Told.{told}
+use Rattle.limits.specs.Told.{told}
 use Rattle.plantfile.specs.declared.questions.SideLanes.{SideLanes}
 use Rattle.plantfile.proofs.Positions.{Found, none-found, on-side, off-side, found-on, found-off, room-left, lists-all}
 use Rattle.plantfile.proofs.file_plant.FilePlant.lanes_on.Needs as need

@@ -1,6 +1,0 @@
-use mathlib.Core.Path.{_∙_, sym}
-use Rattle.plantfile.proofs.Checked.{longs-at}
-use Rattle.plantfile.proofs.limits.nth_long.Needs as need
-
-pub returns : need.returns
-returns c = c .long-at .ensures ∙ sym (longs-at (c .args .bytes .now) (c .args .n) (c .pre))

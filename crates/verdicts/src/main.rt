@@ -7,31 +7,9 @@ use plantfile::Verdict;
 use plantfile::read_plant;
 use std::alloc::AllocError;
 use std::alloc::Global;
-use std::io;
+use std::error::AnyError;
 use std::io::BufRead;
 use std::io::BufReader;
-
-// Why the program ends with status 1.
-#[derive(Drop)]
-enum Failure {
-    // A line that is no file in hex digits.
-    NoHex,
-    NoMemory,
-    // A read or a write failed.
-    Io(io::Error),
-}
-
-impl From<AllocError> for Failure as FailureFromAllocError {
-    fn from(_: AllocError) -> Failure {
-        Failure::NoMemory
-    }
-}
-
-impl From<io::Error> for Failure as FailureFromIoError {
-    fn from(e: io::Error) -> Failure {
-        Failure::Io(e)
-    }
-}
 
 // The value of a hex digit.
 fn digit(b: u8) -> Option<u8>
@@ -74,13 +52,18 @@ fn verdict_line(heap: Global, file: &[u8]) -> Result<Vec<u8>, AllocError> {
     }
 }
 
-fn main(rt: LibcRuntime) -> Result<(), Failure> {
+// Judges each line.
+fn judge_lines(rt: &LibcRuntime) -> Result<(), AnyError> {
     let heap = rt.alloc();
     for line in BufReader::new(rt.stdin()).lines(heap) {
         let Some(file) = file_of(heap, line?.as_bytes())? else {
-            return Err(Failure::NoHex);
+            return Err("a line holds something else than bytes in hex digits".into());
         };
         rt.write_all(verdict_line(heap, file.as_slice())?.as_slice())?;
     }
     Ok(())
+}
+
+fn main(rt: LibcRuntime) -> Result<(), AnyError> {
+    rt.report(judge_lines(&rt))
 }

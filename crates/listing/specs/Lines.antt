@@ -1,9 +1,12 @@
 -- The lines that show a plant, and the line that tells a refusal, as bytes.
+use mathlib.Core.Path.{_≡_}
 use mathlib.Core.Bool.{Bool, cond}
 use mathlib.Core.List.{List, [], _++_}
 use Prim.Native.Nat.{ℕ, zero, suc, _^_}
 use lib.Chars.{codes}
 use lib.Dec.{eqb}
+use Rattle.std.specs.declared.result.Result.{Result}
+use Rattle.std.specs.Vec.{made}
 use Rattle.std.specs.Written.{decimal}
 use Rattle.floor.specs.Floor.{Floor, stock, despatch, leaving, entering, sides, width, end-of, station-of, laneAt}
 use Rattle.floor.specs.Meaning.{Meaning}
@@ -16,6 +19,10 @@ use Rattle.plant.specs.Refusals.{number-of}
 abbrev pub each : ℕ → (ℕ → List ℕ) → List ℕ
 each zero f = []
 each (suc n) f = each n f ++ f n
+
+-- the text stands after what was there before, unless adding it failed
+abbrev pub Adds : {X E : Type 0} → List ℕ → List ℕ → List ℕ → Result X E → Type 0
+Adds text before after r = made r (λ _. after ≡ before ++ text)
 
 -- a number after a space
 abbrev pub spaced : ℕ → List ℕ
@@ -33,6 +40,10 @@ floor-line F =
 abbrev pub lane-line : Floor → ℕ → List ℕ
 lane-line F e = codes "lane " ++ decimal e ++ codes " from " ++ decimal (F .end leaving e) ++ codes " to " ++ decimal (F .end entering e) ++ codes "\n"
 
+-- a line for each lane
+abbrev pub lane-lines : Floor → List ℕ
+lane-lines F = each (F .lanes) (lane-line F)
+
 -- the lanes of a side, by position
 abbrev pub lanes-on : Floor → ℕ → List ℕ
 lanes-on F s = each (width F s) (λ p. spaced (laneAt F (end-of s) (station-of s) p))
@@ -49,9 +60,13 @@ side-line M s = codes "side " ++ decimal s ++ codes " lanes" ++ lanes-on (M .flo
 abbrev pub side-shown : Meaning → ℕ → List ℕ
 side-shown M s = cond (eqb (width (M .floor) s) 0) [] (side-line M s)
 
+-- a line for each side that has lanes
+abbrev pub side-lines : Meaning → List ℕ
+side-lines M = each (sides (M .floor)) (side-shown M)
+
 -- a line for the floor, one for each lane, and one for each side that has lanes
 abbrev pub plant-lines : Meaning → List ℕ
-plant-lines M = floor-line (M .floor) ++ each (M .floor .lanes) (lane-line (M .floor)) ++ each (sides (M .floor)) (side-shown M)
+plant-lines M = floor-line (M .floor) ++ lane-lines (M .floor) ++ side-lines M
 
 -- ---- a refusal
 

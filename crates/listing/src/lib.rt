@@ -1,13 +1,13 @@
 // How a plant and a refusal are shown to a reader, as lines of text. A plant is asked through the trait alone, so any plant can be
-// shown; the lines are those that specs/Lines.antt computes from its meaning. Where memory runs out there is no listing at all.
+// shown; the lines are those that specs/Lines.antt computes from its meaning. The listing asks only about what is on the floor, where
+// no question is refused, so each answer is unwrapped, and the proofs show that it is there. Where memory runs out there is no listing.
 ghost use mathlib.Core.Path.{_≡_};
-ghost use mathlib.Core.List.{_++_};
 ghost use Prim.Native.Nat.{_<_};
 ghost use Rattle.std.specs.Of.Vec.{vec-items};
 ghost use Rattle.std.specs.Vec.{made};
 ghost use Rattle.std.specs.Written.{decimal};
 ghost use Rattle.floor.specs.Floor.{sides, width as side-width};
-ghost use Rattle.listing.specs.Lines.{spaced, floor-line, lane-line, lanes-on, caps-on, side-shown, each, plant-lines, layer-word, refusal-line};
+ghost use Rattle.listing.specs.Lines.{Adds, spaced, floor-line, lane-line, lane-lines, lanes-on, caps-on, side-shown, side-lines, plant-lines, layer-word, refusal-line};
 use plant::Layer;
 use plant::Plant;
 use plant::Refusal;
@@ -57,7 +57,7 @@ fn word(layer: Layer) -> &'static [u8]
 
 // A number's decimal digits.
 fn add_number(heap: Global, out: &mut Vec<u8>, n: usize) -> Result<(), AllocError>
-    ensures { λ r. ⌜ made r (λ _. vec-items (now (out .exit)) ≡ vec-items (now (out .entry)) ++ decimal n) ⌝ }
+    ensures { λ r. ⌜ Adds (decimal n) (vec-items (now (out .entry))) (vec-items (now (out .exit))) r ⌝ }
 {
     let text = n.to_string(heap)?;
     out.extend_from_slice(text.as_bytes())
@@ -65,7 +65,7 @@ fn add_number(heap: Global, out: &mut Vec<u8>, n: usize) -> Result<(), AllocErro
 
 // A space and a number.
 fn add_spaced(heap: Global, out: &mut Vec<u8>, n: usize) -> Result<(), AllocError>
-    ensures { λ r. ⌜ made r (λ _. vec-items (now (out .exit)) ≡ vec-items (now (out .entry)) ++ spaced n) ⌝ }
+    ensures { λ r. ⌜ Adds (spaced n) (vec-items (now (out .entry))) (vec-items (now (out .exit))) r ⌝ }
 {
     out.extend_from_slice(b" ")?;
     add_number(heap, out, n)?;
@@ -74,7 +74,7 @@ fn add_spaced(heap: Global, out: &mut Vec<u8>, n: usize) -> Result<(), AllocErro
 
 // The line of the floor.
 fn add_floor<P: Plant>(heap: Global, out: &mut Vec<u8>, plant: &P) -> Result<(), AllocError>
-    ensures { λ r. ⌜ made r (λ _. vec-items (now (out .exit)) ≡ vec-items (now (out .entry)) ++ floor-line (meaning (now (plant .entry)) .floor)) ⌝ }
+    ensures { λ r. ⌜ Adds (floor-line (meaning (now (plant .entry)) .floor)) (vec-items (now (out .entry))) (vec-items (now (out .exit))) r ⌝ }
 {
     out.extend_from_slice(b"stations ")?;
     add_number(heap, out, plant.stations())?;
@@ -90,7 +90,7 @@ fn add_floor<P: Plant>(heap: Global, out: &mut Vec<u8>, plant: &P) -> Result<(),
 
 // A line for each lane.
 fn add_lanes<P: Plant>(heap: Global, out: &mut Vec<u8>, plant: &P) -> Result<(), AllocError>
-    ensures { λ r. ⌜ made r (λ _. vec-items (now (out .exit)) ≡ vec-items (now (out .entry)) ++ each (meaning (now (plant .entry)) .floor .lanes) (lane-line (meaning (now (plant .entry)) .floor))) ⌝ }
+    ensures { λ r. ⌜ Adds (lane-lines (meaning (now (plant .entry)) .floor)) (vec-items (now (out .entry))) (vec-items (now (out .exit))) r ⌝ }
 {
     for lane in 0..plant.lanes() {
         add_lane(heap, out, plant, lane)?;
@@ -106,7 +106,7 @@ fn add_lane<P: Plant>(
     lane: usize,
 ) -> Result<(), AllocError>
     requires { ⌜ lane < meaning (now plant) .floor .lanes ⌝ }
-    ensures { λ r. ⌜ made r (λ _. vec-items (now (out .exit)) ≡ vec-items (now (out .entry)) ++ lane-line (meaning (now (plant .entry)) .floor) lane) ⌝ }
+    ensures { λ r. ⌜ Adds (lane-line (meaning (now (plant .entry)) .floor) lane) (vec-items (now (out .entry))) (vec-items (now (out .exit))) r ⌝ }
 {
     let (from, to) = plant.ends(lane).unwrap();
     out.extend_from_slice(b"lane ")?;
@@ -121,7 +121,7 @@ fn add_lane<P: Plant>(
 
 // A line for each side that has lanes.
 fn add_sides<P: Plant>(heap: Global, out: &mut Vec<u8>, plant: &P) -> Result<(), AllocError>
-    ensures { λ r. ⌜ made r (λ _. vec-items (now (out .exit)) ≡ vec-items (now (out .entry)) ++ each (sides (meaning (now (plant .entry)) .floor)) (side-shown (meaning (now (plant .entry))))) ⌝ }
+    ensures { λ r. ⌜ Adds (side-lines (meaning (now (plant .entry)))) (vec-items (now (out .entry))) (vec-items (now (out .exit))) r ⌝ }
 {
     for side in 0..2 * plant.stations() {
         add_side(heap, out, plant, side)?;
@@ -137,7 +137,7 @@ fn add_side<P: Plant>(
     side: usize,
 ) -> Result<(), AllocError>
     requires { ⌜ side < sides (meaning (now plant) .floor) ⌝ }
-    ensures { λ r. ⌜ made r (λ _. vec-items (now (out .exit)) ≡ vec-items (now (out .entry)) ++ side-shown (meaning (now (plant .entry))) side) ⌝ }
+    ensures { λ r. ⌜ Adds (side-shown (meaning (now (plant .entry))) side) (vec-items (now (out .entry))) (vec-items (now (out .exit))) r ⌝ }
 {
     let width = plant.width(side).unwrap();
     if width == 0 {
@@ -163,7 +163,7 @@ fn add_lanes_on<P: Plant>(
 ) -> Result<(), AllocError>
     requires on_floor { ⌜ side < sides (meaning (now plant) .floor) ⌝ }
     requires all { ⌜ width ≡ side-width (meaning (now plant) .floor) side ⌝ }
-    ensures { λ r. ⌜ made r (λ _. vec-items (now (out .exit)) ≡ vec-items (now (out .entry)) ++ lanes-on (meaning (now (plant .entry)) .floor) side) ⌝ }
+    ensures { λ r. ⌜ Adds (lanes-on (meaning (now (plant .entry)) .floor) side) (vec-items (now (out .entry))) (vec-items (now (out .exit))) r ⌝ }
 {
     for position in 0..width {
         add_spaced(heap, out, plant.lane_at(side, position).unwrap())?;
@@ -181,7 +181,7 @@ fn add_caps_on<P: Plant>(
 ) -> Result<(), AllocError>
     requires on_floor { ⌜ side < sides (meaning (now plant) .floor) ⌝ }
     requires all { ⌜ width ≡ side-width (meaning (now plant) .floor) side ⌝ }
-    ensures { λ r. ⌜ made r (λ _. vec-items (now (out .exit)) ≡ vec-items (now (out .entry)) ++ caps-on (meaning (now (plant .entry))) side) ⌝ }
+    ensures { λ r. ⌜ Adds (caps-on (meaning (now (plant .entry))) side) (vec-items (now (out .entry))) (vec-items (now (out .exit))) r ⌝ }
 {
     let sets = 1usize << width;
     for set in 0..sets {

@@ -349,6 +349,14 @@ def too_many_cases():
     into = fan + lane(1, 3) * 4 + lane(2, 3) * 4
     case("accepted", into)
     case("7 at 106", into + lane(0, 3))
+    middle = fan + lane(1, 2) * 8
+    case("accepted", middle)
+    case("7 at 106", middle + lane(1, 2))
+    case("7 at 106", middle + lane(1, 3))
+    case("7 at 106", middle + lane(0, 2))
+    case("accepted", middle + lane(0, 1) * 8 + lane(2, 3) * 8)
+    case("7 at 202", middle + lane(0, 1) * 8 + lane(0, 3))
+    case("7 at 202", middle + lane(2, 3) * 8 + lane(0, 3))
     # the ends are judged before the count, and the range before both
     case("6 at 106", eight + lane(0, 0))
     case("6 at 106", out + lane(0, 0))
@@ -364,7 +372,10 @@ def too_many_cases():
     case("5 at 778", wide + lane(2, 32))
     case("accepted", wide + grades(63, [2, 1]))
     # 64 lanes on full sides: eight between neighbours, nine stations
-    case("accepted", head(9, 0, 8) + b"".join(lane(i, i + 1) * 8 for i in range(8)))
+    row = head(9, 0, 8) + b"".join(lane(i, i + 1) * 8 for i in range(8))
+    case("accepted", row)
+    case("7 at 778", row + lane(0, 8))
+    case("7 at 778", row + lane(3, 4))
     # a head of 32 stations with a lane between the last two
     case("accepted", head(32, 30, 31) + lane(30, 31))
 

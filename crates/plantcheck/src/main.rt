@@ -1,6 +1,9 @@
 // Judges a plant file. The file comes on standard input; the program prints the plant with every cap that a planner will go by,
 // and ends with status 0, or prints the one line of the refusal and ends with status 1. A read or a write that fails, and want
 // of memory, are told in one line on standard error, with status 1.
+ghost use Rattle.std.specs.Vec.{made};
+ghost use Rattle.plantformat.specs.Judge.{judge};
+ghost use Rattle.plantcheck.specs.Answers.{Answers};
 use listing::show_plant;
 use listing::show_refusal;
 use plantfile::FilePlantPlant;
@@ -44,7 +47,9 @@ impl From<io::Error> for Failure as FailureFromIoError {
 }
 
 // What is to be printed of a file.
-fn answer_to(heap: Global, file: &[u8]) -> Result<Answer, AllocError> {
+fn answer_to(heap: Global, file: &[u8]) -> Result<Answer, AllocError>
+    ensures { λ r. ⌜ made r (λ a. Answers (judge (now (file .entry))) a) ⌝ }
+{
     let (plant, verdict) = read_plant(heap, file);
     match verdict {
         Verdict::Accepted => Ok(Answer::Listing(show_plant(heap, &plant)?)),

@@ -1,7 +1,11 @@
 // Judges many small plant files, for trying the reader on all kinds of input. Each line of standard input is a file in hex
 // digits, an empty line the empty file; for each the program prints `accepted`, or the line of the refusal.
 ghost use mathlib.Core.Path.{_≡_};
+ghost use Rattle.std.specs.Of.Vec.{vec-items};
+ghost use Rattle.std.specs.Vec.{made};
+ghost use Rattle.plantformat.specs.Judge.{judge};
 ghost use Rattle.verdicts.specs.Hex.{digit-value};
+ghost use Rattle.verdicts.specs.Verdicts.{verdict-line};
 use listing::show_refusal;
 use plantfile::Verdict;
 use plantfile::read_plant;
@@ -43,7 +47,9 @@ fn file_of(heap: Global, digits: &[u8]) -> Result<Option<Vec<u8>>, AllocError> {
 }
 
 // The line that tells a file's verdict.
-fn verdict_line(heap: Global, file: &[u8]) -> Result<Vec<u8>, AllocError> {
+fn told_verdict(heap: Global, file: &[u8]) -> Result<Vec<u8>, AllocError>
+    ensures { λ r. ⌜ made r (λ v. vec-items v ≡ verdict-line (judge (now (file .entry)))) ⌝ }
+{
     let (_, verdict) = read_plant(heap, file);
     match verdict {
         Verdict::Accepted => b"accepted\n".to_vec(heap),
@@ -59,7 +65,7 @@ fn judge_lines(rt: &LibcRuntime) -> Result<(), AnyError> {
         let Some(file) = file_of(heap, line?.as_bytes())? else {
             return Err("a line holds something else than bytes in hex digits".into());
         };
-        rt.write_all(verdict_line(heap, file.as_slice())?.as_slice())?;
+        rt.write_all(told_verdict(heap, file.as_slice())?.as_slice())?;
     }
     Ok(())
 }

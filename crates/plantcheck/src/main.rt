@@ -61,7 +61,9 @@ fn answer_to(heap: Global, file: &[u8]) -> Result<Answer, AllocError>
 // The file on standard input. One byte more than a file may have is enough to refuse it, so no more than that is read.
 fn read_file(rt: &LibcRuntime) -> io::Result<Vec<u8>> {
     let mut file = Vec::new(rt.alloc());
-    rt.stdin().take(MOST_BYTES as u64 + 1).read_to_end(&mut file)?;
+    rt.stdin()
+        .take(MOST_BYTES as u64 + 1)
+        .read_to_end(&mut file)?;
     Ok(file)
 }
 

@@ -1,5 +1,5 @@
 #!/usr/bin/env python3
-"""A second judge of plant files, in Python, written from docs/FORMAT.md and docs/REFUSALS.md and not from the program.
+"""A second judge of plant files, in Python. It shares no code with the program; docs/FORMAT.md and docs/REFUSALS.md have the rules.
 
 It reads a plant file on standard input and prints exactly what plantcheck prints: the listing of the plant, with status 0, or
 the line of the refusal, with status 1. tools/make_cases.py takes from it what the programs must print. Nothing here is proved,

@@ -1,13 +1,14 @@
 // The caps that a limit gives.
 ghost use mathlib.Core.Path.{_≡_};
 ghost use mathlib.Core.Bool.{true};
-ghost use Prim.Native.Nat.{ℕ, _+_, _^_, _≤_, _<_};
+ghost use Prim.Native.Nat.{ℕ, _+_, _*_, _^_, min, _≤_, _<_};
 ghost use lib.ListN.{length, getD};
 ghost use Rattle.std.specs.declared.option.Option.the-variants.{Some};
 ghost use Rattle.polymatroid.specs.Sets.{has};
 ghost use Rattle.polymatroid.specs.Kinds.{graded, grouped};
 ghost use Rattle.floor.specs.Numbers.{most-on-side};
 ghost use Rattle.plantformat.specs.Numbers.{top-lane, most-groups};
+ghost use Rattle.plantformat.specs.Bytes.{long};
 ghost use Rattle.plantformat.specs.Records.{cap-by};
 ghost use Rattle.plantformat.specs.Rules.{limit-keeps, all-at-most};
 ghost use Rattle.plantformat.specs.Judge.{longs};
@@ -54,7 +55,15 @@ fn own_sums(count: usize, numbers: &[u8], own: &[u32], set: usize) -> [u32; MOST
     sums
 }
 
-// The cap of a set under groups: from the highest down, each group passes what has reached it, up to its bound, to its parent.
+// What a group lets through of what has reached it: no more than its bound.
+fn let_through(numbers: &[u8], group: usize, reached: u32) -> u32
+    requires { ⌜ 6 * group + 6 ≤ length (now numbers) ⌝ }
+    ensures { λ r. ⌜ r ≡ min reached (long (now (numbers .entry)) (6 * group + 2)) ⌝ }
+{
+    reached.min(bound_of(numbers, group))
+}
+
+// The cap of a set under groups: from the highest down, each passes what it lets through to its parent.
 fn groups_cap(count: usize, numbers: &[u8], own: &[u32], set: usize) -> u32
     requires groups { ⌜ Groups-of count (length (now own)) (now numbers) ⌝ }
     requires low { ⌜ ((p : ℕ) → p < length (now own) → getD (now own) p 0 ≤ top-lane) ⌝ }
@@ -62,10 +71,10 @@ fn groups_cap(count: usize, numbers: &[u8], own: &[u32], set: usize) -> u32
 {
     let mut sums = own_sums(count, numbers, own, set);
     for group in (1..count).rev() {
-        let passed = sums[group].min(bound_of(numbers, group));
+        let passed = let_through(numbers, group, sums[group]);
         sums[parent_of(numbers, group)] += passed;
     }
-    sums[0].min(bound_of(numbers, 0))
+    let_through(numbers, 0, sums[0])
 }
 
 // The cap of a set of positions under a limit that keeps the rules, on a side whose lanes have these own caps.

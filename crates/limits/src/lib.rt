@@ -23,9 +23,19 @@ pub use numbers::word_at;
 // groups record, or the grades.
 #[derive(Clone, Copy)]
 pub enum Limit<'a> {
-    Table { side: usize, caps: &'a [u8] },
-    Groups { side: usize, count: usize, numbers: &'a [u8] },
-    Grades { side: usize, steps: &'a [u8] },
+    Table {
+        side: usize,
+        caps: &'a [u8],
+    },
+    Groups {
+        side: usize,
+        count: usize,
+        numbers: &'a [u8],
+    },
+    Grades {
+        side: usize,
+        steps: &'a [u8],
+    },
 }
 
 impl Limit<'_> {

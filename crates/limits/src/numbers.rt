@@ -7,7 +7,6 @@ ghost use Rattle.polymatroid.specs.Sets.{has};
 ghost use Rattle.plantformat.specs.Bytes.{word, long};
 ghost use Rattle.plantformat.specs.Judge.{longs};
 
-
 // The two-byte number at a place.
 pub fn word_at(bytes: &[u8], at: usize) -> usize
     requires { ⌜ at + 2 ≤ length (now bytes) ⌝ }

@@ -26,7 +26,9 @@ use Rattle.plantformat.proofs.Tests.{keeps-rules}
 use Rattle.plantformat.proofs.Verdicts.{unless-ok, unless-not-ok, onward-ok, with-rest-ok, ok-same}
 use Rattle.limits.specs.Told.{told, allowed}
 use Rattle.plantfile.specs.Content.{content}
-use Rattle.plantfile.specs.Steps.{Ranged, next-judged, grown, keeps-draft}
+use Rattle.plantfile.specs.Steps.{Ranged, next-judged, grown, keeps-draft, Kept-limit}
+use Rattle.plantfile.specs.declared.reading.Stop.{Stop}
+use Rattle.plantfile.specs.declared.reading.Stop.the-variants.{Fault, Memory}
 use Rattle.limits.specs.declared.Limit as code
 use Rattle.plantfile.specs.declared.records.Record as code-record
 use Rattle.plantfile.specs.declared.records.Record.the-variants as record-of
@@ -123,14 +125,15 @@ module _ (d : Draft) (at : ℕ) (bs : List ℕ) where
 -- ---- one limit more
 
 module _ (f : FilePlant) (l : code.Limit) where
-  -- the limits after a push, whether or not there was memory for it, keep the rules
-  pub pushed-keeps : (r : code-record.Record) → r ≡ record-of.Limit l → (b : Bool) (xs : List code.Limit)
-      → xs ≡ cond b (vec-items (f .limits) ++ l ∷ []) (vec-items (f .limits)) → keeps-draft (grown (content f) r) ≡ true
+  -- the limits afterwards, whether or not there was memory for one more, keep the rules
+  pub kept-keeps : (r : code-record.Record) → r ≡ record-of.Limit l → (answer : Result (Unit {0}) Stop) (xs : List code.Limit)
+      → Kept-limit (vec-items (f .limits)) l xs answer → keeps-draft (grown (content f) r) ≡ true
       → keeps (f .head) (vec-items (f .lanes)) (map told xs) ≡ true
-  pushed-keeps r is true xs e k =
+  kept-keeps r is (Ok _) xs e k =
       subst⁻¹ (λ ks. keeps (f .head) (vec-items (f .lanes)) ks ≡ true) (ap (map told) e ∙ map-push told (vec-items (f .limits)) l)
       (subst (λ (x : code-record.Record). keeps-draft (grown (content f) x) ≡ true) is k)
-  pushed-keeps r is false xs e k = subst⁻¹ (λ ks. keeps (f .head) (vec-items (f .lanes)) ks ≡ true) (ap (map told) e) (f .kept)
+  kept-keeps r is (Err (Fault x)) xs e k = absurd e
+  kept-keeps r is (Err Memory) xs e k = subst⁻¹ (λ ks. keeps (f .head) (vec-items (f .lanes)) ks ≡ true) (ap (map told) e) (f .kept)
 
   pub pushed-grown : (r : code-record.Record) → r ≡ record-of.Limit l → (xs : List code.Limit) → xs ≡ vec-items (f .limits) ++ l ∷ []
       → draft (f .head) (vec-items (f .lanes)) (map told xs) ≡ grown (content f) r

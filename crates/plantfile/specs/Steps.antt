@@ -15,6 +15,7 @@ use Rattle.plantformat.specs.Rules.{lane-ranged, keeps}
 use Rattle.plantformat.specs.Judge.{onward, unless, headed, Part, a-lane, a-table, a-groups, a-grades, Draft, draft, recorded, placed, lanes-may-come}
 use Rattle.plantfile.specs.Parts.{record-part}
 use Rattle.limits.specs.Told.{told}
+use Rattle.limits.specs.declared.Limit.{Limit}
 use Rattle.plantfile.specs.declared.reading.Stop.{Stop}
 use Rattle.plantfile.specs.declared.reading.Stop.the-variants.{Fault, Memory}
 use Rattle.plantfile.specs.declared.records.First.{First}
@@ -46,6 +47,12 @@ grown d (record-of.Limit l) = draft (d .head) (d .lanes) (d .limits ++ told l �
 -- what has been read keeps the rules
 abbrev pub keeps-draft : Draft → Bool
 keeps-draft d = keeps (d .head) (d .lanes) (d .limits)
+
+-- a limit was put behind the others; or memory was wanting, and nothing changed
+abbrev pub Kept-limit : List Limit → Limit → List Limit → Result (Unit {0}) Stop → Type 0
+Kept-limit ks l after (Ok _) = after ≡ ks ++ l ∷ []
+Kept-limit ks l after (Err (Fault f)) = ⊥
+Kept-limit ks l after (Err Memory) = after ≡ ks
 
 -- a record was added; or memory was wanting, and nothing changed
 abbrev pub Added : Draft → code.Record → Draft → Result (Unit {0}) Stop → Type 0

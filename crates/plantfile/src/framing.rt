@@ -33,7 +33,11 @@ fn cut_record<'a>(bytes: &'a [u8], at: usize) -> Result<Cut<'a>, FramingFault>
         return Err(FramingFault::Length { at });
     }
     let (body, rest) = after.split_at(length - 4);
-    Ok(Cut { number: u16::from_le_bytes([*k0, *k1]), body, rest })
+    Ok(Cut {
+        number: u16::from_le_bytes([*k0, *k1]),
+        body,
+        rest,
+    })
 }
 
 // The kind with a number, if it is listed.
@@ -56,7 +60,11 @@ pub fn first_frame<'a>(bytes: &'a [u8], at: usize) -> Result<Frame<'a>, FramingF
 {
     let cut = cut_record(bytes, at)?;
     match listed_kind(cut.number) {
-        Some(kind) => Ok(Frame { kind, body: cut.body, rest: cut.rest }),
+        Some(kind) => Ok(Frame {
+            kind,
+            body: cut.body,
+            rest: cut.rest,
+        }),
         None => Err(FramingFault::Kind { at }),
     }
 }

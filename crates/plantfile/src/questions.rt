@@ -43,7 +43,11 @@ impl<'a> FilePlant<'a> {
     {
         let station = side / 2;
         let entering = side % 2 == 1;
-        let mut on = SideLanes { side, numbers: [0; MOST_ON_SIDE], count: 0 };
+        let mut on = SideLanes {
+            side,
+            numbers: [0; MOST_ON_SIDE],
+            count: 0,
+        };
         for number in 0..self.lanes.len() {
             if lane_end(self.lanes[number], entering) == station {
                 on.numbers[on.count] = number;

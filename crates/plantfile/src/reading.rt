@@ -11,7 +11,7 @@ ghost use Rattle.plantformat.specs.Judge.{crowded, judge, lane-placed, placed, 
 ghost use Rattle.plantfile.specs.Content.{content};
 ghost use Rattle.plantfile.specs.Parts.{limit-part, record-part};
 ghost use Rattle.limits.specs.Told.{told, told-side, allowed};
-ghost use Rattle.plantfile.specs.Steps.{Ranged, next-told, next-judged, grown, keeps-draft, Added, opened, opened-told, Filled};
+ghost use Rattle.plantfile.specs.Steps.{Ranged, next-told, next-judged, grown, keeps-draft, Kept-limit, Added, opened, opened-told, Filled};
 ghost use Rattle.plantfile.specs.Promise.{empty-draft, stopped, Judged, Promised};
 ghost use Rattle.plantfile.specs.declared.reading.Stop.the-variants.{Fault, Memory};
 use crate::file_plant::FilePlant;
@@ -26,8 +26,8 @@ use plant::MOST_LANES;
 use plant::MOST_ON_SIDE;
 use plant::Refusal;
 use plant::RefusalDebug;
-use plant::RefusalPartialEq;
 use plant::RefusalEq;
+use plant::RefusalPartialEq;
 use plantformat::FloorFault;
 use plantformat::FloorFromRecord;
 use plantformat::Head;
@@ -58,6 +58,14 @@ impl<T: Drop> From<Refused<T>> for Stop as StopFromRefused {
     fn from(_e: Refused<T>) -> Stop {
         Stop::Memory
     }
+}
+
+// One limit more behind those that were read: none is dropped, however many there are.
+fn keep_limit<'a>(limits: &mut Vec<Limit<'a>>, limit: Limit<'a>) -> Result<(), Stop>
+    ensures { λ r. ⌜ Kept-limit (vec-items (now (limits .entry))) (limit .entry) (vec-items (now (limits .exit))) r ⌝ }
+{
+    limits.push(limit)?;
+    Ok(())
 }
 
 impl<'a> FilePlant<'a> {
@@ -143,7 +151,7 @@ impl<'a> FilePlant<'a> {
     {
         match record {
             Record::Lane(lane) => self.lanes.push(lane)?,
-            Record::Limit(limit) => self.limits.push(limit)?,
+            Record::Limit(limit) => keep_limit(&mut self.limits, limit)?,
         }
         Ok(())
     }
@@ -170,7 +178,15 @@ impl<'a> FilePlant<'a> {
         ensures holds { λ r. ⌜ content r ≡ empty-draft ⌝ }
         ensures limits { λ r. ⌜ vec-items (r .limits) ≡ [] ⌝ }
     {
-        FilePlant { head: Head { stations: 2, stock: 0, despatch: 1 }, lanes: Vec::new(heap), limits: Vec::new(heap) }
+        FilePlant {
+            head: Head {
+                stations: 2,
+                stock: 0,
+                despatch: 1,
+            },
+            lanes: Vec::new(heap),
+            limits: Vec::new(heap),
+        }
     }
 }
 

@@ -57,7 +57,11 @@ fn read_head(body: &[u8], at: usize) -> Result<Head, RecordFault>
     if body.len() != 6 {
         return Err(RecordFault::Size { at });
     }
-    let head = Head { stations: word_at(body, 0), stock: word_at(body, 2), despatch: word_at(body, 4) };
+    let head = Head {
+        stations: word_at(body, 0),
+        stock: word_at(body, 2),
+        despatch: word_at(body, 4),
+    };
     if !head_in_range(head) {
         return Err(RecordFault::Range { at });
     }
@@ -78,7 +82,11 @@ fn read_lane(body: &[u8], stations: usize, at: usize) -> Result<Lane, RecordFaul
     if body.len() != 8 {
         return Err(RecordFault::Size { at });
     }
-    let lane = Lane { from: word_at(body, 0), to: word_at(body, 2), own: long_at(body, 4) };
+    let lane = Lane {
+        from: word_at(body, 0),
+        to: word_at(body, 2),
+        own: long_at(body, 4),
+    };
     if !lane_in_range(lane, stations) {
         return Err(RecordFault::Range { at });
     }
@@ -101,7 +109,13 @@ fn read_side(body: &[u8], fixed: usize, stations: usize, at: usize) -> Result<us
 }
 
 // A body by its kind, on a floor of so many stations, where lanes may or may not come.
-fn read_body<'a>(kind: Kind, body: &'a [u8], stations: usize, lanes_may_come: bool, at: usize) -> Result<Record<'a>, RecordFault>
+fn read_body<'a>(
+    kind: Kind,
+    body: &'a [u8],
+    stations: usize,
+    lanes_may_come: bool,
+    at: usize,
+) -> Result<Record<'a>, RecordFault>
     ensures { λ r. ⌜ record-shown r ≡ part-read kind «lanes_may_come» stations at (now (body .entry)) ⌝ }
 {
     match kind {
@@ -115,15 +129,25 @@ fn read_body<'a>(kind: Kind, body: &'a [u8], stations: usize, lanes_may_come: bo
         }
         Kind::Table => {
             let side = read_side(body, 2, stations, at)?;
-            Ok(Record::Limit(Limit::Table { side, caps: &body[2..] }))
+            Ok(Record::Limit(Limit::Table {
+                side,
+                caps: &body[2..],
+            }))
         }
         Kind::Groups => {
             let side = read_side(body, 4, stations, at)?;
-            Ok(Record::Limit(Limit::Groups { side, count: word_at(body, 2), numbers: &body[4..] }))
+            Ok(Record::Limit(Limit::Groups {
+                side,
+                count: word_at(body, 2),
+                numbers: &body[4..],
+            }))
         }
         Kind::Grades => {
             let side = read_side(body, 2, stations, at)?;
-            Ok(Record::Limit(Limit::Grades { side, steps: &body[2..] }))
+            Ok(Record::Limit(Limit::Grades {
+                side,
+                steps: &body[2..],
+            }))
         }
     }
 }
@@ -140,14 +164,25 @@ pub fn first_record<'a>(file: &'a [u8]) -> Result<First<'a>, RecordFault>
         return Err(RecordFault::Order { at: 0 });
     };
     let head = read_head(frame.body, 0)?;
-    Ok(First { head, rest: frame.rest })
+    Ok(First {
+        head,
+        rest: frame.rest,
+    })
 }
 
 // The first record of `bytes`, which follow the head and lie at the place `at` of the file.
-pub fn next_record<'a>(bytes: &'a [u8], stations: usize, lanes_may_come: bool, at: usize) -> Result<Next<'a>, RecordFault>
+pub fn next_record<'a>(
+    bytes: &'a [u8],
+    stations: usize,
+    lanes_may_come: bool,
+    at: usize,
+) -> Result<Next<'a>, RecordFault>
     ensures { λ r. ⌜ next-shown r ≡ recorded «lanes_may_come» stations at (now (bytes .entry)) ⌝ }
 {
     let frame = first_frame(bytes, at)?;
     let record = read_body(frame.kind, frame.body, stations, lanes_may_come, at)?;
-    Ok(Next { record, rest: frame.rest })
+    Ok(Next {
+        record,
+        rest: frame.rest,
+    })
 }

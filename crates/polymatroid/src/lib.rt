@@ -6,11 +6,9 @@ ghost use Rattle.polymatroid.specs.Tables.{Tables-tested, Tests-decide};
 // The lane-by-lane test of a table names the lowest law that the table breaks, or none where it keeps them all.
 pub fn tables_tested()
     ensures { λ _. ⌜ Tables-tested ⌝ }
-{
-}
+{}
 
 // Each of the two lane-by-lane tests decides its law over all pairs of sets, whether or not the other laws hold.
 pub fn tests_decide()
     ensures { λ _. ⌜ Tests-decide ⌝ }
-{
-}
+{}

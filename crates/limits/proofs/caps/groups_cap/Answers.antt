@@ -2,7 +2,7 @@ use borrow.Author.Needs.{needs}
 use mathlib.Core.Path.{_≡_, sym, ap, _∙_}
 use Prim.Native.Nat.{ℕ, suc, _-_, _≤_, min}
 use native.Mathlib.Omega.{arith}
-use lib.ListN.{length, getD, set}
+use lib.ListN.{length, getD}
 use Rattle.std.proofs.shelf.Lists.{length-set}
 use Rattle.polymatroid.specs.Kinds.{Groups, own}
 use Rattle.polymatroid.specs.More.{reached}
@@ -54,12 +54,12 @@ loop-group-again c =
     let parent : getD (parents-at (c .args .count) (c .args .numbers .now)) j 0 ≡ p =
     parents-is (c .args .numbers .now) (c .args .count) j (omega arith) ∙ sym (c .parent-of .ensures) in
     let bound = bounds-is (c .args .numbers .now) (c .args .count) j (omega arith) in
-    let passed = c .min-passed .ensures ∙ ap (min (getD xs j 0)) (c .bound-of .ensures ∙ sym bound) in
+    let passed = c .let-through-passed .ensures ∙ ap (min (getD xs j 0)) (sym bound) in
     let steps : c .args .count - j ≡ suc (c .args .count - c .loop-group .group) = omega arith in (
       length-set xs p _ ∙ size,
       omega arith,
       λ i l.
-          passed-up G k (c .args .set) (c .args .count - c .loop-group .group) j p (c .min-passed .result) xs (c .loop-group .inv .2) (omega arith)
+          passed-up G k (c .args .set) (c .args .count - c .loop-group .group) j p (c .let-through-passed .result) xs (c .loop-group .inv .2) (omega arith)
           (omega arith) (omega arith) parent passed i l
           ∙ ap (λ n. reached G k (c .args .set) n i) (sym steps),
     )
@@ -72,6 +72,6 @@ returns c =
     let some = c .pre .groups .some in
     let bound = bounds-is (c .args .numbers .now) (c .args .count) 0 (omega arith) in
     let root = c .loop-group .inv .2 0 (omega arith) in
-    swept-is G k (c .args .set) (in-order (c .pre .groups) (c .args .own .now)) (c .args .count - c .loop-group .group) (c .min .result) (omega arith)
-    (c .min .ensures ∙ ap (λ x. min x (c .bound-of-2 .result)) root
-    ∙ ap (min (reached G k (c .args .set) (c .args .count - c .loop-group .group) 0)) (c .bound-of-2 .ensures ∙ sym bound))
+    let turns : ℕ = c .args .count - c .loop-group .group in
+    let through : c .let-through .result ≡ min (reached G k (c .args .set) turns 0) (G .bound 0) = omega arith in
+    swept-is G k (c .args .set) (in-order (c .pre .groups) (c .args .own .now)) turns (c .let-through .result) (omega arith) through

@@ -10,6 +10,8 @@ use Rattle.plantfile.proofs.file_plant.FilePlant.empty.Needs as need
 pub ghost-result : need.ghost-result
 unfolding head-keeps
 ghost-result c =
-    let h : Head = record { stations = 2; stock = 0; despatch = 1 } in
-    (fresh-keeps h (vec-items (c .new .result)) (vec-items (c .new-2 .result)) (c .new .ensures .items) (c .new-2 .ensures .items)
-    (kept-from h [] [] (kept-head h refl)), tt)
+    let h : Head = record { stations = 2; stock = 0; despatch = 1 } in (
+      fresh-keeps h (vec-items (c .new .result)) (vec-items (c .new-2 .result)) (c .new .ensures .items) (c .new-2 .ensures .items)
+          (kept-from h [] [] (kept-head h refl)),
+      tt,
+    )

@@ -12,19 +12,22 @@ use Rattle.plantfile.proofs.file_plant.FilePlant.fill.Needs as need
 
 pub ghost-self : need.ghost-self
 ghost-self c =
-    let first = c .in-Continue-first .first in
-    (fresh-keeps (first .head) (vec-items (c .args .self .now .lanes)) (vec-items (c .args .self .now .limits)) (c .pre .lanes) (c .pre .limits)
-    (opened-keeps (c .args .file .now) (first .head) (first .rest .now) (sym (c .in-Continue-first .ensures tt)) .0), tt)
+    let first = c .in-Continue-first .first in (
+      fresh-keeps (first .head) (vec-items (c .args .self .now .lanes)) (vec-items (c .args .self .now .limits)) (c .pre .lanes) (c .pre .limits)
+          (opened-keeps (c .args .file .now) (first .head) (first .rest .now) (sym (c .in-Continue-first .ensures tt)) .0),
+      tt,
+    )
 
 pub loop-rest-holds : need.loop-rest-holds
 loop-rest-holds c =
     let first = c .in-Continue-first .first in
     let bs = c .args .file .now in
-    let is = sym (c .in-Continue-first .ensures tt) in
-    (judged-on bs (first .head) (first .rest .now) is
-    ∙ ap (λ (d : Draft). read-on (length (first .rest .now)) (length bs) d (first .rest .now))
-    (fresh-draft (first .head) (vec-items (c .args .self .now .lanes)) (vec-items (c .args .self .now .limits)) (c .pre .lanes) (c .pre .limits)),
-    opened-keeps bs (first .head) (first .rest .now) is .1)
+    let is = sym (c .in-Continue-first .ensures tt) in (
+      judged-on bs (first .head) (first .rest .now) is
+          ∙ ap (λ (d : Draft). read-on (length (first .rest .now)) (length bs) d (first .rest .now))
+          (fresh-draft (first .head) (vec-items (c .args .self .now .lanes)) (vec-items (c .args .self .now .limits)) (c .pre .lanes) (c .pre .limits)),
+      opened-keeps bs (first .head) (first .rest .now) is .1,
+    )
 
 pub returns-in-Break-next : need.returns-in-Break-next
 returns-in-Break-next c =
@@ -61,9 +64,10 @@ loop-rest-again c =
     let bs = c .loop-rest .rest .now in
     let h = c .loop-rest-test .ensures tt in
     let next = c .in-Continue-next .next in
-    let total = length (c .args .file .now) in
-    (c .loop-rest .inv .0
-    ∙ read-more total (content (c .loop-rest .self)) bs (omega (arith, false-eqb (length bs) 0 h)) (c .loop-rest .self .kept) (next .record)
-    (next .rest .now) (sym (c .in-Continue-next .ensures tt))
-    ∙ ap (λ (d : Draft). read-on (length (next .rest .now)) total d (next .rest .now)) (sym (c .in-Continue-add .ensures tt)),
-    omega (arith, fewer c, c .loop-rest .inv .1))
+    let total = length (c .args .file .now) in (
+      c .loop-rest .inv .0
+          ∙ read-more total (content (c .loop-rest .self)) bs (omega (arith, false-eqb (length bs) 0 h)) (c .loop-rest .self .kept) (next .record)
+          (next .rest .now) (sym (c .in-Continue-next .ensures tt))
+          ∙ ap (λ (d : Draft). read-on (length (next .rest .now)) total d (next .rest .now)) (sym (c .in-Continue-add .ensures tt)),
+      omega (arith, fewer c, c .loop-rest .inv .1),
+    )

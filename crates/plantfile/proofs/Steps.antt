@@ -30,8 +30,8 @@ use Rattle.plantfile.specs.Steps.{Ranged, next-judged, grown, keeps-draft, Kep
 use Rattle.plantfile.specs.declared.reading.Stop.{Stop}
 use Rattle.plantfile.specs.declared.reading.Stop.the-variants.{Fault, Memory}
 use Rattle.limits.specs.declared.Limit as code
-use Rattle.plantfile.specs.declared.records.Record as code-record
-use Rattle.plantfile.specs.declared.records.Record.the-variants as record-of
+use Rattle.records.specs.declared.bodies.Record as code-record
+use Rattle.records.specs.declared.bodies.Record.the-variants as record-of
 use Rattle.plantfile.specs.declared.file_plant.FilePlant.{FilePlant}
 
 pub stations-few : (f : FilePlant) → f .head .stations ≤ most-stations

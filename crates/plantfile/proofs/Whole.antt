@@ -23,14 +23,14 @@ use Rattle.plantformat.proofs.Frames.{framed-cut}
 use Rattle.plantformat.proofs.Keeping.{kept-head, kept-from}
 use Rattle.plantformat.proofs.Reading.{rest-shorter, step-kept}
 use Rattle.plantformat.proofs.Judged.{headed-ok}
-use Rattle.plantfile.specs.Parts.{record-part, limit-part}
+use Rattle.records.specs.Parts.{record-part, limit-part}
 use Rattle.limits.specs.Told.{told, limit-read}
 use Rattle.plantfile.specs.Content.{content}
 use Rattle.plantfile.specs.Steps.{next-judged, grown, keeps-draft, opened}
 use Rattle.plantfile.specs.declared.file_plant.FilePlant.{FilePlant}
 use Rattle.limits.specs.declared.Limit.the-variants.{Table, Groups, Grades}
-use Rattle.plantfile.specs.declared.records.Record as code
-use Rattle.plantfile.specs.declared.records.Record.the-variants as record-of
+use Rattle.records.specs.declared.bodies.Record as code
+use Rattle.records.specs.declared.bodies.Record.the-variants as record-of
 use Rattle.limits.specs.declared.Limit as code-limit
 use Rattle.plantformat.specs.Records as format
 use Rattle.limits.proofs.LimitCaps.{read-is-told}

@@ -1,5 +1,3 @@
-pub mod Frames
-pub mod Parts
 pub mod Content
 pub mod Answers
 pub mod Steps

@@ -13,15 +13,15 @@ use Rattle.plantformat.specs.declared.FloorFault.{FloorFault}
 use Rattle.plantformat.specs.declared.FloorFault.the-variants as flo
 use Rattle.plantformat.specs.Rules.{lane-ranged, keeps}
 use Rattle.plantformat.specs.Judge.{onward, unless, headed, Part, a-lane, a-table, a-groups, a-grades, Draft, draft, recorded, placed, lanes-may-come}
-use Rattle.plantfile.specs.Parts.{record-part}
+use Rattle.records.specs.Parts.{record-part}
 use Rattle.limits.specs.Told.{told}
 use Rattle.limits.specs.declared.Limit.{Limit}
 use Rattle.plantfile.specs.declared.reading.Stop.{Stop}
 use Rattle.plantfile.specs.declared.reading.Stop.the-variants.{Fault, Memory}
-use Rattle.plantfile.specs.declared.records.First.{First}
-use Rattle.plantfile.specs.declared.records.Next.{Next}
-use Rattle.plantfile.specs.declared.records.Record as code
-use Rattle.plantfile.specs.declared.records.Record.the-variants as record-of
+use Rattle.records.specs.declared.bodies.First.{First}
+use Rattle.records.specs.declared.bodies.Next.{Next}
+use Rattle.records.specs.declared.bodies.Record as code
+use Rattle.records.specs.declared.bodies.Record.the-variants as record-of
 
 -- the numbers of a record that the record layer has looked at are in their ranges, on a floor of n stations
 abbrev pub Ranged : ℕ → Part → Type 0

@@ -7,10 +7,8 @@
 // `read_plant` promises that its verdict is that of the definition `judge`, that a file is accepted exactly when it encodes records
 // that keep the rules, and that the plant then means what those records define; a refused file leaves the empty floor.
 mod file_plant;
-mod framing;
 mod questions;
 mod reading;
-mod records;
 
 pub use file_plant::FilePlant;
 pub use questions::FilePlantPlant;

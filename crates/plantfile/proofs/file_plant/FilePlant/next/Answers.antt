@@ -3,7 +3,7 @@ use Rattle.std.specs.declared.result.Result.the-variants.{Ok, Err}
 use Rattle.std.proofs.shelf.Results.{err-from-errBy}
 use Rattle.plantformat.specs.Judge.{recorded, lanes-may-come}
 use Rattle.plantfile.specs.Content.{content}
-use Rattle.plantfile.specs.Parts.{record-part}
+use Rattle.records.specs.Parts.{record-part}
 use Rattle.plantfile.proofs.Steps.{may-come, recorded-ranged, next-unread, next-by}
 use Rattle.plantfile.proofs.file_plant.FilePlant.next.Needs as need
 

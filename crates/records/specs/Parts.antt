@@ -13,10 +13,10 @@ use Rattle.plantformat.specs.Bytes.{word}
 use Rattle.plantformat.specs.Judge.{unless, Part, a-lane, a-table, a-groups, a-grades}
 use Rattle.limits.specs.declared.Limit.{Limit}
 use Rattle.limits.specs.declared.Limit.the-variants.{Table, Groups, Grades}
-use Rattle.plantfile.specs.declared.records.Record as code
-use Rattle.plantfile.specs.declared.records.Record.the-variants as record-of
-use Rattle.plantfile.specs.declared.records.First.{First}
-use Rattle.plantfile.specs.declared.records.Next.{Next}
+use Rattle.records.specs.declared.bodies.Record as code
+use Rattle.records.specs.declared.bodies.Record.the-variants as record-of
+use Rattle.records.specs.declared.bodies.First.{First}
+use Rattle.records.specs.declared.bodies.Next.{Next}
 
 -- a limit of which the fixed part is read
 abbrev pub limit-part : Limit → Part

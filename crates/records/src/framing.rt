@@ -1,7 +1,7 @@
 // How a file is cut into records: a two-byte length that counts the whole record, a two-byte kind, then the body.
 ghost use mathlib.Core.Path.{_≡_};
 ghost use Rattle.plantformat.specs.Judge.{framed, kind-of};
-ghost use Rattle.plantfile.specs.Frames.{cut-at, cut-shown, frame-shown};
+ghost use Rattle.records.specs.Frames.{cut-at, cut-shown, frame-shown};
 use plantformat::FramingFault;
 use plantformat::Kind;
 

@@ -8,8 +8,8 @@ use Rattle.plantformat.specs.declared.FramingFault.{FramingFault}
 use Rattle.plantformat.specs.declared.FramingFault.the-variants as framing
 use Rattle.plantformat.specs.Bytes.{word}
 use Rattle.plantformat.specs.Judge.{Frame, frame, cut-short, unless}
-use Rattle.plantfile.specs.declared.framing.Cut.{Cut}
-use Rattle.plantfile.specs.declared.framing.Frame as code
+use Rattle.records.specs.declared.framing.Cut.{Cut}
+use Rattle.records.specs.declared.framing.Frame as code
 
 -- a record before its kind is known: the number of its kind, its body, and the bytes after it
 pub record Parts : Type 0 where

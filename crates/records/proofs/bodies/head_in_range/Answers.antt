@@ -1,7 +1,7 @@
 use native.Mathlib.Omega.{arith}
 use Rattle.std.proofs.shelf.Ways.{tells}
 use Rattle.plantformat.specs.Rules.{head-keeps}
-use Rattle.plantfile.proofs.records.head_in_range.Needs as need
+use Rattle.records.proofs.bodies.head_in_range.Needs as need
 
 pub returns-then-head-2 : need.returns-then-head-2
 unfolding head-keeps

@@ -5,7 +5,7 @@ ghost use lib.ListN.{length};
 ghost use Rattle.plantformat.specs.Bytes.{word, long};
 ghost use Rattle.plantformat.specs.Rules.{head-keeps, lane-ranged};
 ghost use Rattle.plantformat.specs.Judge.{head-read, lane-read, part-read, headed, recorded};
-ghost use Rattle.plantfile.specs.Parts.{side-read, record-shown, first-shown, next-shown};
+ghost use Rattle.records.specs.Parts.{side-read, record-shown, first-shown, next-shown};
 use crate::framing::first_frame;
 use limits::Limit;
 use limits::long_at;

@@ -1,7 +1,7 @@
 use native.Mathlib.Omega.{arith}
 use Rattle.std.proofs.shelf.Ways.{tells}
 use Rattle.plantformat.specs.Rules.{lane-ranged}
-use Rattle.plantfile.proofs.records.lane_in_range.Needs as need
+use Rattle.records.proofs.bodies.lane_in_range.Needs as need
 
 pub returns-then-lane-stations-2 : need.returns-then-lane-stations-2
 unfolding lane-ranged

@@ -1,6 +1,6 @@
 use borrow.Author.Needs.{needs}
 use Rattle.std.proofs.shelf.Lists.{take-rest}
-use Rattle.plantfile.proofs.records.read_body.Needs as need
+use Rattle.records.proofs.bodies.read_body.Needs as need
 
 pub returns-in-Continue-side : need.returns-in-Continue-side
 returns-in-Continue-side c = simp take-rest (search needs)

@@ -11,6 +11,9 @@ mod refusals;
 pub use refusals::Layer;
 pub use refusals::Reason;
 pub use refusals::Refusal;
+pub use refusals::RefusalDebug;
+pub use refusals::RefusalEq;
+pub use refusals::RefusalPartialEq;
 
 // A floor has two stations at least, and this many at most.
 pub const MOST_STATIONS: usize = 32;

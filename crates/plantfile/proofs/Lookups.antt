@@ -9,8 +9,8 @@ use Rattle.std.specs.declared.option.Option.the-variants.{Some}
 use Rattle.std.proofs.shelf.Lists.{at-drop-more}
 use Rattle.std.proofs.shelf.Tests.{cond-true, cond-false, ne-eqb, eq-eqb}
 use Rattle.plantformat.specs.Records.{side-of, limit-of}
-use Rattle.plantfile.specs.Told.{told}
-use Rattle.plantfile.specs.declared.records.Limit.{Limit}
+use Rattle.limits.specs.Told.{told}
+use Rattle.limits.specs.declared.Limit.{Limit}
 
 module _ (s : ℕ) (ks : List Limit) (i : ℕ) (d : Limit) (h : i < length ks) where
   step : limit-of s (map told (drop i ks))

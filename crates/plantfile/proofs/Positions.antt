@@ -23,7 +23,7 @@ use Rattle.plantformat.proofs.Lawful.{own-at-low}
 use Rattle.plantformat.specs.Numbers.{top-lane}
 use Rattle.plantformat.specs.Rules.{Rules}
 use Rattle.std.specs.Of.Vec.{vec-items, vec-len}
-use Rattle.plantfile.specs.Told.{told}
+use Rattle.limits.specs.Told.{told}
 use Rattle.plantfile.specs.Content.{file-meaning}
 use Rattle.plantfile.specs.Answers.{Lists, owns}
 use Rattle.plantfile.specs.declared.file_plant.FilePlant.{FilePlant}
@@ -54,7 +54,7 @@ module _ (h : Head) (ls : List Lane) (s : ℕ) where
       → on (floor-of h ls) (end-of s) (station-of s) e ≡ true → Found h ls s (set xs n e) (n + 1) (e + 1)
   found-on xs n e f l room o = (
     ap (λ v. v + 1) (f .0) ∙ sym (place-on (floor-of h ls) (end-of s) (station-of s) e o)
-    ∙ ap (place (floor-of h ls) (end-of s) (station-of s)) (sym (add-one e)),
+        ∙ ap (place (floor-of h ls) (end-of s) (station-of s)) (sym (add-one e)),
     λ p m. elim (cases-eq p n) [
       | inl q ↦
           ap (λ v. getD (set xs n e) v 0) q ∙ getD-set-same xs n e 0 (omega (arith, f .2))

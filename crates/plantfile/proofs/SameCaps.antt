@@ -21,7 +21,7 @@ use Rattle.plantformat.specs.Records.{Limit, table, groups, grades, grouping, c
 use Rattle.plantformat.specs.Rules.{limit-keeps}
 use Rattle.plantformat.proofs.Tests.{keeps-rules, limit-rules-keep}
 use Rattle.plantformat.proofs.Lawful.{found-rules}
-use Rattle.plantfile.specs.Told.{told}
+use Rattle.limits.specs.Told.{told}
 use Rattle.plantfile.specs.Content.{file-meaning}
 use Rattle.plantformat.specs.Numbers.{top-lane}
 use Rattle.plantfile.specs.Answers.{Lists, owns, Owns, limit-cap}

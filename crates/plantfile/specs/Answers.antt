@@ -12,8 +12,8 @@ use Rattle.plantformat.specs.Records.{own-at, cap-by}
 use Rattle.plantfile.specs.Content.{file-meaning}
 use Rattle.plantfile.specs.declared.file_plant.FilePlant.{FilePlant}
 use Rattle.std.specs.Of.Vec.{vec-items}
-use Rattle.plantfile.specs.Told.{told}
-use Rattle.plantfile.specs.declared.records.Limit.{Limit}
+use Rattle.limits.specs.Told.{told}
+use Rattle.limits.specs.declared.Limit.{Limit}
 use Rattle.plantfile.specs.declared.questions.SideLanes.{SideLanes}
 
 -- the lanes of a side by position

@@ -4,7 +4,7 @@ use Rattle.std.specs.Of.Vec.{vec-items}
 use Rattle.floor.specs.Meaning.{Meaning}
 use Rattle.plantformat.specs.Records.{meaning-of}
 use Rattle.plantformat.specs.Judge.{Draft, draft}
-use Rattle.plantfile.specs.Told.{told}
+use Rattle.limits.specs.Told.{told}
 use Rattle.plantfile.specs.declared.file_plant.FilePlant.{FilePlant}
 
 -- the head, the lanes and the limits that were read

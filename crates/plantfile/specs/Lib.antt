@@ -1,6 +1,4 @@
-pub mod Frames
-pub mod Parts
-pub mod Told
 pub mod Content
 pub mod Answers
+pub mod Steps
 pub mod Promise

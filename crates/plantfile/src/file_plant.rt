@@ -4,8 +4,8 @@ ghost use mathlib.Core.Bool.{true};
 ghost use mathlib.Core.List.{map};
 ghost use Rattle.std.specs.Of.Vec.{vec-items};
 ghost use Rattle.plantformat.specs.Rules.{keeps};
-ghost use Rattle.plantfile.specs.Told.{told};
-use crate::records::Limit;
+ghost use Rattle.limits.specs.Told.{told};
+use limits::Limit;
 use plantformat::Head;
 use plantformat::Lane;
 

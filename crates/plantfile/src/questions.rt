@@ -7,13 +7,13 @@ ghost use Rattle.std.specs.Of.Vec.{vec-items};
 ghost use Rattle.plantformat.specs.Records.{lane-end, limit-of, side-of};
 ghost use Rattle.plantformat.proofs.Lawful.{kept-lawful};
 ghost use Rattle.plantfile.specs.Content.{file-meaning};
-ghost use Rattle.plantfile.specs.Told.{told, told-side};
+ghost use Rattle.limits.specs.Told.{told, told-side};
 ghost use Rattle.plantfile.specs.Answers.{Lists, owns, Owns, limit-cap, limit-seen};
 ghost use Rattle.std.specs.declared.option.Option.the-variants.{None};
 use crate::file_plant::FilePlant;
-use crate::limits::cap_of;
-use crate::limits::contains;
-use crate::records::Limit;
+use limits::Limit;
+use limits::cap_of;
+use limits::contains;
 use plant::MOST_ON_SIDE;
 use plant::OffFloor;
 use plant::Plant;
@@ -21,10 +21,10 @@ use plantformat::Lane;
 
 // The lanes of a side: their numbers by position, and how many there are.
 #[derive(Clone, Copy)]
-struct SideLanes {
-    side: usize,
-    numbers: [usize; MOST_ON_SIDE],
-    count: usize,
+pub(crate) struct SideLanes {
+    pub(crate) side: usize,
+    pub(crate) numbers: [usize; MOST_ON_SIDE],
+    pub(crate) count: usize,
 }
 
 // The station at an end of a lane.
@@ -34,27 +34,20 @@ fn lane_end(lane: Lane, entering: bool) -> usize
     if entering { lane.to } else { lane.from }
 }
 
-// The side that a limit is for.
-fn limit_side(limit: Limit) -> usize
-    ensures { λ r. ⌜ r ≡ side-of (told (limit .entry)) ⌝ }
-{
-    match limit {
-        Limit::Table { side, .. } => side,
-        Limit::Groups { side, .. } => side,
-        Limit::Grades { side, .. } => side,
-    }
-}
-
 impl<'a> FilePlant<'a> {
     // The lanes of a side, in lane order.
-    fn lanes_on(&self, side: usize) -> SideLanes
+    pub(crate) fn lanes_on(&self, side: usize) -> SideLanes
         requires { ⌜ side < 2 * now self .head .stations ⌝ }
         ensures side { λ r. ⌜ r .side ≡ side ⌝ }
         ensures lists { λ r. ⌜ Lists (file-meaning (now (self .entry)) .floor) r ⌝ }
     {
         let station = side / 2;
         let entering = side % 2 == 1;
-        let mut on = SideLanes { side, numbers: [0; MOST_ON_SIDE], count: 0 };
+        let mut on = SideLanes {
+            side,
+            numbers: [0; MOST_ON_SIDE],
+            count: 0,
+        };
         for number in 0..self.lanes.len() {
             if lane_end(self.lanes[number], entering) == station {
                 on.numbers[on.count] = number;
@@ -65,11 +58,11 @@ impl<'a> FilePlant<'a> {
     }
 
     // The limit of a side, if it has one.
-    fn limit_of(&self, side: usize) -> Option<Limit<'a>>
+    pub(crate) fn limit_of(&self, side: usize) -> Option<Limit<'a>>
         ensures { λ r. ⌜ limit-seen r ≡ limit-of side (map told (vec-items (now (self .entry) .limits))) ⌝ }
     {
         for limit in self.limits.iter() {
-            if limit_side(*limit) == side {
+            if limit.side() == side {
                 return Some(*limit);
             }
         }

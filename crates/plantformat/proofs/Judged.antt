@@ -44,7 +44,7 @@ pub record Headed (bs : List ℕ) (h : Head) (rest : List ℕ) : Type 0 where
   pub bytes : Head-bytes h front
   pub keeps : head-keeps h ≡ true
 
-headed-ok : (bs : List ℕ) (p : Head × List ℕ) → headed bs ≡ Ok p → Headed bs (p .0) (p .1)
+pub headed-ok : (bs : List ℕ) (p : Head × List ℕ) → headed bs ≡ Ok p → Headed bs (p .0) (p .1)
 headed-ok bs p e =
     let a = unless-ok (eqb (length bs) 0) _ _ e in
     let b = onward-ok rec.Framing (framed 0 bs) (λ f. with-rest (f .rest) (first-read f)) (a .1) in

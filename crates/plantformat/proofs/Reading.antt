@@ -153,9 +153,11 @@ pub step-kept : (d : Draft) (at : ℕ) (bs : List ℕ) (p : Part × List ℕ) (n
     → (keeps (next .head) (next .lanes) (next .limits) ≡ true) × (length (p .1) < length bs)
 step-kept d at bs p next e q k =
     let f = first-ok d at bs p next e q in
-    let s = rest-shorter (f .kind) (f .body) bs (f .front) (p .1) (f .bytes) (f .cut) in
-    (kept-from (next .head) (next .lanes) (next .limits)
-    (more-kept d (f .kind) (f .body) next (f .more) (kept-parts (d .head) (d .lanes) (d .limits) k)), omega arith)
+    let s = rest-shorter (f .kind) (f .body) bs (f .front) (p .1) (f .bytes) (f .cut) in (
+      kept-from (next .head) (next .lanes) (next .limits)
+          (more-kept d (f .kind) (f .body) next (f .more) (kept-parts (d .head) (d .lanes) (d .limits) k)),
+      omega arith,
+    )
 
 -- the bytes that are read on from a draft which keeps the rules
 pub read-ok : (fuel total : ℕ) (d : Draft) (bs : List ℕ) (last : Draft) → length bs ≤ fuel → Keeping d → read-on fuel total d bs ≡ Ok last

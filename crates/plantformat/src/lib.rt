@@ -127,7 +127,12 @@ pub impl From<LimitFault> for FloorFault as FloorFromLimit {
 fn refusal(reason: Reason, place: usize) -> Refusal
     ensures { λ r. ⌜ r ≡ Rattle.plantformat.specs.Faults.told-of reason place ⌝ }
 {
-    Refusal { reason, layer: reason.layer(), place, law: 0 }
+    Refusal {
+        reason,
+        layer: reason.layer(),
+        place,
+        law: 0,
+    }
 }
 
 // A fault as it is told: number, layer, place and law.
@@ -135,32 +140,40 @@ pub fn tell(fault: FloorFault) -> Refusal
     ensures { λ r. ⌜ r ≡ told fault ⌝ }
 {
     match fault {
-        FloorFault::Record(RecordFault::Framing(FramingFault::Length { at })) => refusal(Reason::Framing, at),
-        FloorFault::Record(RecordFault::Framing(FramingFault::Kind { at })) => refusal(Reason::Kind, at),
+        FloorFault::Record(RecordFault::Framing(FramingFault::Length { at })) => refusal(
+            Reason::Framing,
+            at,
+        ),
+        FloorFault::Record(RecordFault::Framing(FramingFault::Kind { at })) => refusal(
+            Reason::Kind,
+            at,
+        ),
         FloorFault::Record(RecordFault::Order { at }) => refusal(Reason::Order, at),
         FloorFault::Record(RecordFault::Size { at }) => refusal(Reason::Size, at),
         FloorFault::Record(RecordFault::Range { at }) => refusal(Reason::Range, at),
         FloorFault::Ends { at } => refusal(Reason::Ends, at),
         FloorFault::TooMany { at } => refusal(Reason::TooMany, at),
         FloorFault::SecondLimit { at } => refusal(Reason::SecondLimit, at),
-        FloorFault::Limit(LimitFault::Breaks { at, law }) => Refusal { reason: Reason::Law, layer: Layer::Limit, place: at, law: law.number() },
+        FloorFault::Limit(LimitFault::Breaks { at, law }) => Refusal {
+            reason: Reason::Law,
+            layer: Layer::Limit,
+            place: at,
+            law: law.number(),
+        },
     }
 }
 
 // A file that is accepted encodes the records that it was read as, and these keep the rules.
 pub fn accepted_files_encode()
     ensures { λ _. ⌜ Accepted-files-encode ⌝ }
-{
-}
+{}
 
 // A file that encodes records which keep the rules is accepted, and is read as just these records.
 pub fn encodings_are_accepted()
     ensures { λ _. ⌜ Encodings-are-accepted ⌝ }
-{
-}
+{}
 
 // Records that keep the rules define a floor and caps that keep the floor's rules and the four laws.
 pub fn accepted_plants_are_lawful()
     ensures { λ _. ⌜ Accepted-plants-are-lawful ⌝ }
-{
-}
+{}

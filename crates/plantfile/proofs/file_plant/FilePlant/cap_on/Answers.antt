@@ -8,7 +8,7 @@ use Rattle.std.specs.Of.Vec.{vec-items}
 use Rattle.std.specs.declared.option.Option.the-variants.{Some}
 use Rattle.plantformat.specs.Records.{limit-of}
 use Rattle.plantformat.specs.Rules.{limit-keeps}
-use Rattle.plantfile.specs.Told.{told}
+use Rattle.limits.specs.Told.{told}
 use Rattle.plantfile.specs.Answers.{limit-seen, limit-cap}
 use Rattle.plantfile.proofs.SameCaps.{found-keeps, front-long, front-low, front-cap}
 use Rattle.plantfile.proofs.file_plant.FilePlant.cap_on.Needs as need

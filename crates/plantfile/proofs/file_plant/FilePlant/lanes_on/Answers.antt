@@ -7,7 +7,7 @@ use lib.ListN.{length, replicate}
 use Rattle.std.specs.Of.Vec.{vec-items, vec-len}
 use Rattle.floor.specs.Floor.{on, end-of, station-of}
 use Rattle.plantformat.specs.Records.{floor-of}
-use Rattle.plantfile.specs.Told.{told}
+use Rattle.limits.specs.Told.{told}
 use Rattle.plantfile.specs.declared.questions.SideLanes.{SideLanes}
 use Rattle.plantfile.proofs.Positions.{Found, none-found, on-side, off-side, found-on, found-off, room-left, lists-all}
 use Rattle.plantfile.proofs.file_plant.FilePlant.lanes_on.Needs as need
@@ -54,15 +54,15 @@ loop-number-again c =
           (sym (c .lane-end .ensures) ∙ w .if-lane-end-station .taken) in
           subst⁻¹ P (w .on-is) (
             found-on (p .head) (vec-items (p .lanes)) (c .args .side) (c .loop-number .on .numbers) (c .loop-number .on .count) e (c .loop-number .inv .0) lt
-          (room-left (p .head) (vec-items (p .lanes)) (c .args .side) (map told (vec-items (p .limits))) (p .kept) (c .pre) (c .loop-number .on .count) e
-          (c .loop-number .inv .0 .0) lt on) on,
+                (room-left (p .head) (vec-items (p .lanes)) (c .args .side) (map told (vec-items (p .limits))) (p .kept) (c .pre) (c .loop-number .on .count) e
+                (c .loop-number .inv .0 .0) lt on) on,
             c .loop-number .inv .1,
           )
       | else-lane-end-station w ↦
           subst⁻¹ P (w .on-is) (
             found-off (p .head) (vec-items (p .lanes)) (c .args .side) (c .loop-number .on .numbers) (c .loop-number .on .count) e (c .loop-number .inv .0)
-          (off-side (p .head) (vec-items (p .lanes)) (c .args .side) e (c .index .result .now) lt (c .index .ensures)
-          (λ q. w .if-lane-end-station .left (c .lane-end .ensures ∙ q))),
+                (off-side (p .head) (vec-items (p .lanes)) (c .args .side) e (c .index .result .now) lt (c .index .ensures)
+                (λ q. w .if-lane-end-station .left (c .lane-end .ensures ∙ q))),
             c .loop-number .inv .1,
           )
     ]

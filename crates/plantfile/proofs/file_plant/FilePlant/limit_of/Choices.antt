@@ -2,7 +2,7 @@ use mathlib.Core.Path.{_≡_}
 use mathlib.Core.List.{map}
 use lib.ListN.{drop}
 use Rattle.plantformat.specs.Records.{limit-of}
-use Rattle.plantfile.specs.Told.{told}
+use Rattle.limits.specs.Told.{told}
 use Rattle.plantfile.proofs.file_plant.FilePlant.limit_of.Given as given
 
 abbrev pub Inv-loop-limit : given.InvT-loop-limit

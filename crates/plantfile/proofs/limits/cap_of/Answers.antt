@@ -1,4 +1,0 @@
-use Rattle.plantfile.proofs.limits.cap_of.Needs as need
-
-pub returns : need.returns
-returns c = ?

@@ -1,9 +1,10 @@
 -- Moves one after another: their lengths never fall, and they are few.
 use mathlib.Core.Path.{_≡_, refl, sym, ap, subst, subst⁻¹, _∙_}
 use mathlib.Core.Bool.{Bool, false, cond}
+use mathlib.Core.Logic.{inl, inr, _⊎_}
 use mathlib.Core.List.{List, [], _∷_, _++_}
-use mathlib.Core.Option.{some}
-use Prim.Native.Nat.{ℕ, zero, suc, _+_, _-_, _≤_, _<_}
+use mathlib.Core.Option.{Option, none, some}
+use Prim.Native.Nat.{ℕ, _*_, zero, suc, _+_, _-_, _≤_, _<_}
 use native.Mathlib.Omega.{arith}
 use lib.Dec.{eqb}
 use lib.ListN.{length, getD}
@@ -18,7 +19,7 @@ use Rattle.network.proofs.Bound.{few-share-a-length, few-stages}
 use Rattle.labelling.specs.Rules.{ruled}
 use Rattle.labelling.specs.Table.{Mark, Outcome, Ended, Finished, label, path}
 use Rattle.labelling.specs.Steps.{Move, step, made, Follow, madeAll}
-use Rattle.labelling.specs.Theorems.{how-many, lanes-at, Moves-are-few}
+use Rattle.labelling.specs.Theorems.{how-many, lanes-at, Moves-are-few, Runs-finish}
 use Rattle.labelling.proofs.Pairs.{lets, tightest}
 use Rattle.labelling.proofs.Rows.{row-length}
 use Rattle.labelling.proofs.Made.{moveAlong, step-ended, made-is, stage-is}
@@ -136,3 +137,23 @@ pub follow-more : (M : Meaning) (vs : List Move) (f : ℕ → ℕ) (v : Move) �
 unfolding madeAll
 follow-more M [] f v h o = (o, tt)
 follow-more M (u ∷ vs) f v h o = (h .0, follow-more M vs (made u f) v (h .1) o)
+
+-- n steps, or fewer where the plan is finished before
+steps : (M : Meaning) (n : ℕ) (f : ℕ → ℕ) → (vs : List Move) × Follow M f vs × ((step M (madeAll vs f) ≡ none) ⊎ (length vs ≡ n))
+unfolding madeAll
+steps M zero f = ([], tt, inr refl)
+steps M (suc n) f = by (step M f) refl (λ v. steps M n (made v f))
+  where
+    by : (o : Option Move) → step M f ≡ o
+        → ((v : Move) → (vs : List Move) × Follow M (made v f) vs × ((step M (madeAll vs (made v f)) ≡ none) ⊎ (length vs ≡ n)))
+        → (vs : List Move) × Follow M f vs × ((step M (madeAll vs f) ≡ none) ⊎ (length vs ≡ suc n))
+    by none q next = ([], tt, inl q)
+    by (some v) q next =
+        let r = next v in
+        (v ∷ r .0, (q, r .1), elim (r .2) [ inl a ↦ inl a | inr a ↦ inr (omega arith) ])
+
+pub runs-finish : Runs-finish
+runs-finish M f laws ok =
+    let r = steps M (suc (2 * (M .floor .lanes * (M .floor .lanes * M .floor .lanes)))) f in
+    let few = moves-are-few M f (r .0) laws ok (r .1) .in-all in
+    (r .0, r .1, few, elim (r .2) [ inl a ↦ a | inr a ↦ absurd (omega arith) ])

@@ -13,7 +13,7 @@ use Rattle.network.specs.Plans.{Fits, Feasible, Balanced, FitsBy, total}
 use Rattle.network.specs.Cuts.{capacity}
 use Rattle.labelling.specs.Table.{label}
 use Rattle.labelling.specs.Augmenting.{Augmenting, Residual-path, Augments, Before}
-use Rattle.labelling.specs.Steps.{Move, step, made, Follow, outcome, labels}
+use Rattle.labelling.specs.Steps.{Move, step, made, Follow, outcome, labels, madeAll}
 use Rattle.labelling.specs.Near.{near, unlabelled}
 use Rattle.labelling.specs.Cases.{Case, FullPlus, FullMinus, Opening, ruledBy, Listed}
 
@@ -73,6 +73,12 @@ pub record Few (m : ℕ) (vs : List Move) : Type 0 where
 abbrev pub Moves-are-few : Type 0
 Moves-are-few =
     (M : Meaning) (f : ℕ → ℕ) (vs : List Move) → Lawful M → Feasible M f → Follow M f vs → Few (M .floor .lanes) vs
+
+-- some list of moves leads from every plan to a finished one, and none is longer than 2·m·m·m
+abbrev pub Runs-finish : Type 0
+Runs-finish =
+    (M : Meaning) (f : ℕ → ℕ) → Lawful M → Feasible M f
+    → (vs : List Move) × Follow M f vs × (length vs ≤ 2 * (M .floor .lanes * (M .floor .lanes * M .floor .lanes))) × (step M (madeAll vs f) ≡ none)
 
 -- ---- finished: no plan carries more
 

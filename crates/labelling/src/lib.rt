@@ -2,7 +2,7 @@
 // specs/Rules, Table, Augmenting, Amount, Steps and Near are the rules, as definitions that compute; specs/Theorems is what
 // they promise. What a move does to a floor is the matter of the crate network.
 ghost use Rattle.labelling.specs.Rules.{Rules-give};
-ghost use Rattle.labelling.specs.Theorems.{Augmenting-is-residual, First-shortest-path, Moves-keep-plans-feasible, Moves-are-few, Finished-is-best, Path-missing-when-best, Any-order};
+ghost use Rattle.labelling.specs.Theorems.{Augmenting-is-residual, First-shortest-path, Moves-keep-plans-feasible, Moves-are-few, Runs-finish, Finished-is-best, Path-missing-when-best, Any-order};
 ghost use Rattle.labelling.specs.Sweep.{Sweeps-agree};
 ghost use Rattle.labelling.specs.Worked.{Worked-floors};
 
@@ -30,6 +30,11 @@ pub fn moves_keep_plans_feasible()
 // From move to move the paths grow no shorter; at most 2·m·m moves share one length, and at most 2·m·m·m follow one another.
 pub fn moves_are_few()
     ensures { λ _. ⌜ Moves-are-few ⌝ }
+{}
+
+// So steps made one after another finish.
+pub fn runs_finish()
+    ensures { λ _. ⌜ Runs-finish ⌝ }
 {}
 
 // A finished plan carries what its cut lets through: no plan carries more, and no cut lets less through.

@@ -1,4 +1,4 @@
--- What the program and the later requests lean on.
+-- What plants that are read from files lean on: the laws at the bounds of the files, half the pairs of a table, layers, groups in one sweep.
 use mathlib.Core.Path.{_≡_}
 use mathlib.Core.Bool.{Bool, true, false, cond, not, _&&_, _||_}
 use Prim.Native.Nat.{ℕ, zero, suc, _+_, _-_, _*_, _^_, min, _≤_, _<_}

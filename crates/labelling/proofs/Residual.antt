@@ -38,7 +38,6 @@ module _ (M : Meaning) (laws : Lawful M) (f : ℕ → ℕ) (fits : Fits M f) whe
   precede e (Plus g) l h z = absurd (omega (arith, full-zero M laws f fits false e l z))
   precede e (Minus g) l h z = (g, refl, room-tight M laws f fits false e g l z (omega arith))
 
-
   -- a residual path is an augmenting path
   pub from-residual : (Q : ℕ → State) (k : ℕ) → Residual-path M f Q k → Augmenting M f Q k
   from-residual Q k r = record {

@@ -9,8 +9,7 @@ ghost use Rattle.labelling.specs.Worked.{Worked-floors};
 // A scanned lane gives its label, by the rules, just where the residual relation has the pair.
 pub fn rules_give_residual_pairs()
     ensures { λ _. ⌜ Rules-give ⌝ }
-{
-}
+{}
 
 // Augmenting paths, as the rules word them, are the paths of the residual relation through distinct lanes.
 pub fn augmenting_is_residual()

@@ -28,8 +28,7 @@ pub fn codes_are_sets()
 // A set crossed with a tight set has no more left below its cap, nor has what the two make.
 pub fn uncrossing()
     ensures { λ _. ⌜ Uncrossing ⌝ }
-{
-}
+{}
 
 // Tight sets are closed under union and intersection; a full position has a smallest one, whose other members carry trays.
 pub fn tight_sets()

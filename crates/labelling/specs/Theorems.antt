@@ -19,6 +19,7 @@ use Rattle.labelling.specs.Cases.{Case, FullPlus, FullMinus, Opening, ruledBy,
 
 -- ---- augmenting paths are the paths of the residual relation through distinct lanes
 
+-- what the rules word by full lanes and tight sets, amounts of pairs say too
 abbrev pub Augmenting-is-residual : Type 0
 Augmenting-is-residual =
     (M : Meaning) (f : ℕ → ℕ) (Q : ℕ → State) (k : ℕ) → Lawful M → Fits M f
@@ -36,6 +37,7 @@ pub record First-shortest (M : Meaning) (f : ℕ → ℕ) (p : List State) : Typ
 abbrev pub No-path : Meaning → (ℕ → ℕ) → Type 0
 No-path M f = (q : List State) → Augments M f q → ⊥
 
+-- a step makes its move along the first shortest path; where it makes none, there is no path
 abbrev pub First-shortest-path : Type 0
 First-shortest-path =
     (M : Meaning) (f : ℕ → ℕ) → Lawful M → Feasible M f
@@ -43,6 +45,7 @@ First-shortest-path =
 
 -- ---- a move keeps the plan feasible
 
+-- the amount is at least 1, the trays after the move are a plan, and the total has grown by the amount
 pub record Move-made (M : Meaning) (f : ℕ → ℕ) (v : Move) : Type 0 where
   pub some : 1 ≤ v .amount
   -- the - lanes carry what is taken from them
@@ -50,6 +53,7 @@ pub record Move-made (M : Meaning) (f : ℕ → ℕ) (v : Move) : Type 0 where
   pub feasible : Feasible M (made v f)
   pub grows : total M (made v f) ≡ total M f + v .amount
 
+-- so it is of every move that a step makes
 abbrev pub Moves-keep-plans-feasible : Type 0
 Moves-keep-plans-feasible =
     (M : Meaning) (f : ℕ → ℕ) (v : Move) → Lawful M → Feasible M f → step M f ≡ some v → Move-made M f v
@@ -65,16 +69,18 @@ how-many t (v ∷ vs) = cond (t v) 1 0 + how-many t vs
 abbrev pub lanes-at : List Move → ℕ → ℕ
 lanes-at vs i = length (getD vs i (record { lanes = []; amount = 0 }) .lanes)
 
+-- the number of lanes never falls; at most 2·m·m moves have the same; there are at most 2·m·m·m
 pub record Few (m : ℕ) (vs : List Move) : Type 0 where
   pub never-fall : (i j : ℕ) → i ≤ j → j < length vs → lanes-at vs i ≤ lanes-at vs j
   pub share-a-length : (k : ℕ) → how-many (λ v. eqb (length (v .lanes)) k) vs ≤ 2 * (m * m)
   pub in-all : length vs ≤ 2 * (m * (m * m))
 
+-- so it is of every list of moves, each made by a step at the trays that those before it leave
 abbrev pub Moves-are-few : Type 0
 Moves-are-few =
     (M : Meaning) (f : ℕ → ℕ) (vs : List Move) → Lawful M → Feasible M f → Follow M f vs → Few (M .floor .lanes) vs
 
--- some list of moves leads from every plan to a finished one, and none is longer than 2·m·m·m
+-- from every plan some list of moves, of at most 2·m·m·m, leads to a finished one
 abbrev pub Runs-finish : Type 0
 Runs-finish =
     (M : Meaning) (f : ℕ → ℕ) → Lawful M → Feasible M f
@@ -82,8 +88,9 @@ Runs-finish =
 
 -- ---- finished: no plan carries more
 
--- the cut of the labels has the total as its capacity, no cut has less, and nothing that keeps within q times the caps, for
--- whatever q, carries more than q times the total
+-- the cut of the labels has the total as its capacity; no cut, whatever stations are near and whatever lanes count where they leave,
+-- has less;
+-- and nothing that is balanced and keeps within q times the caps, for whatever q, carries more than q times the total
 pub record Best (M : Meaning) (f : ℕ → ℕ) : Type 0 where
   pub stock-near : near M f (labels M f) (stock (M .floor)) ≡ true
   pub despatch-far : near M f (labels M f) (despatch (M .floor)) ≡ false
@@ -92,6 +99,7 @@ pub record Best (M : Meaning) (f : ℕ → ℕ) : Type 0 where
       → total M f ≤ capacity M is-near upper
   pub none-carries-more : (q : ℕ) (g : ℕ → ℕ) → Balanced M g → FitsBy M q g → total M g ≤ q * total M f
 
+-- so it is of a plan at which a step makes no move
 abbrev pub Finished-is-best : Type 0
 Finished-is-best = (M : Meaning) (f : ℕ → ℕ) → Lawful M → Feasible M f → step M f ≡ none → Best M f
 
@@ -107,6 +115,7 @@ Path-missing-when-best =
 
 -- ---- the order of the three cases of a scan does not matter
 
+-- whatever list the cases are tried by, so long as it has all three, the labelling comes out the same
 abbrev pub Any-order : Type 0
 Any-order =
     (M : Meaning) (f : ℕ → ℕ) (cs : List Case) → Lawful M → Listed FullPlus cs → Listed FullMinus cs → Listed Opening cs

@@ -1,8 +1,10 @@
 -- The trays of a side as a list, and the sums of its sets as a table.
 use mathlib.Core.Path.{_≡_}
 use mathlib.Core.List.{List}
-use Prim.Native.Nat.{ℕ, _^_, _≤_, _<_}
+use mathlib.Core.Bool.{cond}
+use Prim.Native.Nat.{ℕ, min, _^_, _≤_, _<_}
 use lib.ListN.{length, getD}
+use Rattle.polymatroid.specs.Sets.{has}
 use Rattle.polymatroid.specs.Side.{load}
 use Rattle.floor.specs.Numbers.{most-on-side}
 
@@ -15,3 +17,7 @@ pub record Sums (trays sums : List ℕ) : Type 0 where
   pub narrow : length trays ≤ most-on-side
   pub whole : length sums ≡ 2 ^ length trays
   pub each : (X : ℕ) → X < 2 ^ length trays → getD sums X 0 ≡ load (at trays) (length trays) X
+
+-- the room of p once a set has been looked at that leaves n
+abbrev pub lowered : ℕ → ℕ → List ℕ → ℕ → ℕ
+lowered X n rooms p = cond (has X p) (min n (at rooms p)) (at rooms p)

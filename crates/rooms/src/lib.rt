@@ -8,9 +8,10 @@ ghost use mathlib.Core.Path.{_≡_};
 ghost use Prim.Native.Nat.{ℕ, _+_, _-_, _^_, _≤_, _<_};
 ghost use lib.ListN.{length, getD};
 ghost use Rattle.polymatroid.specs.Sets.{has};
-ghost use Rattle.polymatroid.specs.Side.{room};
+ghost use Rattle.polymatroid.specs.Side.{left, room};
+ghost use Rattle.polymatroid.specs.Room.{zeroed};
 ghost use Rattle.floor.specs.Numbers.{most-on-side};
-ghost use Rattle.rooms.specs.Rooms.{at, Sums, lowered};
+ghost use Rattle.rooms.specs.Rooms.{at, Sums, lowered, share};
 
 // The set of one position.
 fn only(position: usize) -> usize
@@ -97,4 +98,48 @@ pub fn fill_rooms(caps: &[u32], sums: &[u64], trays: &[u32], rooms: &mut [u32])
     for set in 0..caps.len() {
         lower_rooms(rooms, set, left_of(caps[set], sums[set]));
     }
+}
+
+// The trays of a set, of which `sum` is all, with those of another position put to 0.
+fn sum_without(sum: u64, set: usize, trays: &[u32], other: usize) -> u64
+    requires narrow { ⌜ length (now trays) ≤ most-on-side ⌝ }
+    ensures { λ r. ⌜ r ≡ sum - share set (now (trays .entry)) other ⌝ }
+{
+    if other < trays.len() && contains(set, other) {
+        sum.saturating_sub(u64::from(trays[other]))
+    } else {
+        sum
+    }
+}
+
+// What a set leaves of its cap with the trays of another position put to 0.
+fn left_without(caps: &[u32], sums: &[u64], trays: &[u32], set: usize, other: usize) -> u32
+    requires summed { ⌜ Sums (now trays) (now sums) ⌝ }
+    requires capped { ⌜ length (now caps) ≡ 2 ^ length (now trays) ⌝ }
+    requires on { ⌜ set < 2 ^ length (now trays) ⌝ }
+    ensures { λ r. ⌜ r ≡ left (length (now (trays .entry))) (at (now (caps .entry))) (zeroed (at (now (trays .entry))) other) set ⌝ }
+{
+    left_of(caps[set], sum_without(sums[set], set, trays, other))
+}
+
+// The room of a position with the trays of another put to 0; one that is not on the side changes nothing.
+pub fn room_without(
+    caps: &[u32],
+    sums: &[u64],
+    trays: &[u32],
+    position: usize,
+    other: usize,
+) -> u32
+    requires summed { ⌜ Sums (now trays) (now sums) ⌝ }
+    requires capped { ⌜ length (now caps) ≡ 2 ^ length (now trays) ⌝ }
+    requires on { ⌜ position < length (now trays) ⌝ }
+    ensures { λ r. ⌜ r ≡ room (length (now (trays .entry))) (at (now (caps .entry))) (zeroed (at (now (trays .entry))) other) position ⌝ }
+{
+    let mut lowest = left_without(caps, sums, trays, only(position), other);
+    for set in 0..caps.len() {
+        if contains(set, position) {
+            lowest = lowest.min(left_without(caps, sums, trays, set, other));
+        }
+    }
+    lowest
 }

@@ -4,7 +4,7 @@ use native.Mathlib.Omega.{arith}
 use lib.ListN.{length, getD}
 use Rattle.polymatroid.specs.Side.{left}
 use Rattle.rooms.specs.Rooms.{at}
-use Rattle.rooms.proofs.Rounds.{roomed-none, roomed-more, least-all}
+use Rattle.rooms.proofs.Rounds.{roomed-none, roomed-more, over-all}
 use Rattle.rooms.proofs.fill_rooms.Needs as need
 
 pub loop-set-holds : need.loop-set-holds
@@ -26,5 +26,5 @@ returns c =
     let end : c .loop-set .set ≡ 2 ^ k = omega arith in
     record {
       wide = omega arith;
-      each = λ p l. simp end at (c .loop-set .inv p l) ∙ least-all k (at (c .args .caps .now)) (at (c .args .trays .now)) p;
+      each = λ p l. simp end at (c .loop-set .inv p l) ∙ over-all k (at (c .args .caps .now)) (at (c .args .trays .now)) p;
     }

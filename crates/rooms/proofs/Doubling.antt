@@ -3,14 +3,13 @@ use mathlib.Core.Path.{_≡_, refl, sym, ap, _∙_}
 use mathlib.Core.Bool.{true, cond}
 use mathlib.Core.List.{List}
 use mathlib.Core.Logic.{inl, inr}
-use Prim.Native.Nat.{ℕ, _+_, _-_, _*_, _^_, _≤_, _<_}
+use Prim.Native.Nat.{ℕ, suc, _+_, _-_, _*_, _^_, _≤_, _<_}
 use native.Mathlib.Omega.{arith}
 use native.Mathlib.Numerals.{add-one}
 use native.Mathlib.Nat.{pow-suc}
 use lib.Pow.{pow-mono}
-use lib.ListN.{length, getD, set}
-use Rattle.std.proofs.shelf.Lists.{getD-set-same, getD-set-other}
-use Rattle.std.proofs.shelf.Tests.{cases-eq, cases-lt}
+use lib.ListN.{getD}
+use Rattle.std.proofs.shelf.Tests.{cases-lt}
 use Rattle.polymatroid.specs.Sets.{has}
 use Rattle.polymatroid.specs.Side.{load}
 use Rattle.polymatroid.proofs.Codes.{has-low, has-top, has-past}
@@ -20,16 +19,6 @@ use Rattle.polymatroid.proofs.Side.{load-same}
 abbrev pub Doubled : List ℕ → List ℕ → ℕ → ℕ → ℕ → Type 0
 Doubled old ss top t n =
     ((X : ℕ) → X < top → getD ss X 0 ≡ getD old X 0) × ((X : ℕ) → X < n → getD ss (top + X) 0 ≡ getD old X 0 + t)
-
-pub doubled-more : (old ss : List ℕ) (top t n : ℕ) → n < top → top + n < length ss
-    → Doubled old ss top t n → Doubled old (set ss (top + n) (getD ss n 0 + t)) top t (n + 1)
-doubled-more old ss top t n l long d = (
-  λ X m. getD-set-other ss (top + n) X (getD ss n 0 + t) 0 (λ e. omega arith) ∙ d .0 X m,
-  λ X m. elim (cases-eq X n) [
-    | inl e ↦ rw e (getD-set-same ss (top + n) (getD ss n 0 + t) 0 long ∙ ap (λ x. x + t) (d .0 n l))
-    | inr e ↦ getD-set-other ss (top + n) (top + X) (getD ss n 0 + t) 0 (λ q. e (omega arith)) ∙ d .1 X (omega arith)
-  ],
-)
 
 pub load-none : (w : ℕ → ℕ) (X : ℕ) → load w 0 X ≡ 0
 unfolding load
@@ -60,29 +49,28 @@ loaded-none w ss e = (
   λ X l. let z : X ≡ 0 = omega arith in rw z (omega arith),
 )
 
-pub loaded-more : (w : ℕ → ℕ) (old ss : List ℕ) (k : ℕ) → w k < 2 ^ 32
-    → Loaded w old k → Doubled old ss (2 ^ k) (w k) (2 ^ k) → Loaded w ss (k + 1)
-loaded-more w old ss k small was d = (
-  λ X l. elim (cases-lt X (2 ^ k)) [
-    | inl m ↦ d .0 X m ∙ was .0 X m ∙ sym (load-low w k X m)
+pub loaded-more : (w : ℕ → ℕ) (old ss : List ℕ) (k top : ℕ) → top ≡ 2 ^ k → w k < 2 ^ 32
+    → Loaded w old k → Doubled old ss top (w k) top → Loaded w ss (k + 1)
+loaded-more w old ss k top is small was d = (
+  λ X l. elim (cases-lt X top) [
+    | inl m ↦ let on : X < 2 ^ k = omega arith in d .0 X m ∙ was .0 X on ∙ sym (load-low w k X on)
     | inr m ↦
-        let Y : ℕ = X - 2 ^ k in
-        let below : Y < 2 ^ k = omega (arith, pow-suc 2 k, ap (λ n. 2 ^ n) (add-one k)) in
-        let back : X ≡ 2 ^ k + Y = omega arith in
-        ap (λ x. getD ss x 0) back ∙ d .1 Y below ∙ ap (λ x. x + w k) (was .0 Y below) ∙ sym (load-top w k Y below)
-        ∙ ap (load w (k + 1)) (sym back)
+        let Y : ℕ = X - top in
+        let on : Y < 2 ^ k = omega (arith, pow-suc 2 k, ap (λ n. 2 ^ n) (add-one k)) in
+        let back : X ≡ top + Y = omega arith in
+        ap (λ x. getD ss x 0) back ∙ d .1 Y (omega arith) ∙ ap (λ x. x + w k) (was .0 Y on) ∙ sym (load-top w k Y on)
+        ∙ ap (load w (k + 1)) (omega arith)
   ],
-  λ X l. elim (cases-lt X (2 ^ k)) [
-    | inl m ↦ omega (arith, d .0 X m, was .1 X m)
+  λ X l. elim (cases-lt X top) [
+    | inl m ↦ omega (arith, d .0 X m, was .1 X (omega arith))
     | inr m ↦
-        let Y : ℕ = X - 2 ^ k in
-        let below : Y < 2 ^ k = omega (arith, pow-suc 2 k, ap (λ n. 2 ^ n) (add-one k)) in
-        let back : X ≡ 2 ^ k + Y = omega arith in
-        let e = ap (λ x. getD ss x 0) back ∙ d .1 Y below in
-        omega (arith, e, was .1 Y below)
+        let Y : ℕ = X - top in
+        let on : Y < 2 ^ k = omega (arith, pow-suc 2 k, ap (λ n. 2 ^ n) (add-one k)) in
+        let back : X ≡ top + Y = omega arith in
+        omega (arith, ap (λ x. getD ss x 0) back ∙ d .1 Y (omega arith), was .1 Y on)
   ],
 )
 
 -- the sets with one position of the side on top are sets of the side
-pub sets-on : (p k : ℕ) → p < k → 2 ^ (p + 1) ≤ 2 ^ k
-sets-on p k l = pow-mono (omega arith)
+pub sets-on : (p k : ℕ) → p < k → 2 ^ p + 2 ^ p ≤ 2 ^ k
+sets-on p k l = let h : 2 ^ suc p ≤ 2 ^ k = pow-mono (omega arith) in omega (arith, pow-suc 2 p)

@@ -15,7 +15,7 @@ use Rattle.polymatroid.specs.Finite.{least}
 use Rattle.polymatroid.specs.Side.{load, left, room}
 use Rattle.polymatroid.specs.Room.{zeroed}
 use Rattle.polymatroid.proofs.Codes.{has-one}
-use Rattle.rooms.specs.Rooms.{at, lowered}
+use Rattle.rooms.specs.Rooms.{lowered}
 
 load-past-one : (w : ℕ → ℕ) (k p : ℕ) → k ≤ p → load w k (2 ^ p) ≡ 0
 unfolding load
@@ -42,9 +42,9 @@ Lowered X most old rs n =
 abbrev pub over : ℕ → (ℕ → ℕ) → (ℕ → ℕ) → ℕ → ℕ → ℕ
 over k cap w p n = least (λ X. has X p) (left k cap w) (left k cap w (2 ^ p)) n
 
-pub over-none : (k : ℕ) (cap w : ℕ → ℕ) (p : ℕ) → over k cap w p 0 ≡ left k cap w (2 ^ p)
+pub over-none : (k : ℕ) (cap w : ℕ → ℕ) (p X : ℕ) → X ≡ 2 ^ p → left k cap w X ≡ over k cap w p 0
 unfolding least
-over-none k cap w p = refl
+over-none k cap w p X e = ap (left k cap w) e
 
 pub over-more : (k : ℕ) (cap w : ℕ → ℕ) (p n : ℕ)
     → over k cap w p (n + 1) ≡ cond (has n p) (min (left k cap w n) (over k cap w p n)) (over k cap w p n)
@@ -60,7 +60,7 @@ abbrev pub Roomed : ℕ → (ℕ → ℕ) → (ℕ → ℕ) → List ℕ → ℕ
 Roomed k cap w rs n = (p : ℕ) → p < k → getD rs p 0 ≡ over k cap w p n
 
 pub roomed-none : (k : ℕ) (cap w : ℕ → ℕ) (rs : List ℕ) → ((p : ℕ) → p < k → getD rs p 0 ≡ cap (2 ^ p) - w p) → Roomed k cap w rs 0
-roomed-none k cap w rs e p l = e p l ∙ ap (λ x. cap (2 ^ p) - x) (sym (load-one w k p l)) ∙ sym (over-none k cap w p)
+roomed-none k cap w rs e p l = e p l ∙ ap (λ x. cap (2 ^ p) - x) (sym (load-one w k p l)) ∙ over-none k cap w p (2 ^ p) refl
 
 pub roomed-more : (k : ℕ) (cap w : ℕ → ℕ) (old rs : List ℕ) (n most : ℕ) → most ≡ left k cap w n
     → Roomed k cap w old n → ((p : ℕ) → p < k → getD rs p 0 ≡ lowered n most old p) → Roomed k cap w rs (n + 1)

@@ -1,9 +1,9 @@
 // How much room each lane has on one side of a station: how many trays more it can take before a set of the side's lanes has
 // more than its cap.
 //
-// `fill_sums` adds up the trays of every set, which the others read. `fill_rooms` gives the rooms of all positions, equal to the
-// definition of a room. Sets go by their code and lanes by their position on the side. These functions are for the planner, whose
-// proof shows what they require.
+// `fill_sums` adds up the trays of every set, which the others read. `fill_rooms` gives the rooms of all positions, and
+// `room_without` the room of one position with the trays of another put to 0; each is equal to the definition of a room. Sets go
+// by their code, lanes by their position on the side. These functions are for the planner, whose proof shows what they require.
 ghost use mathlib.Core.Path.{_≡_};
 ghost use Prim.Native.Nat.{ℕ, _+_, _-_, _^_, _≤_, _<_};
 ghost use lib.ListN.{length, getD};
@@ -21,15 +21,14 @@ fn only(position: usize) -> usize
     1 << position
 }
 
-// The sums of the sets with one position on top: each is that of the set without it and the trays of the position.
-fn add_position(sums: &mut [u64], position: usize, count: u32)
-    requires whole { ⌜ 2 ^ (position + 1) ≤ length (now sums) ⌝ }
-    requires narrow { ⌜ position < most-on-side ⌝ }
-    requires low { ⌜ ((X : ℕ) → X < 2 ^ position → getD (now sums) X 0 < 2 ^ 63) ⌝ }
-    ensures below { λ _. ⌜ ((X : ℕ) → X < 2 ^ position → getD (now (sums .exit)) X 0 ≡ getD (now (sums .entry)) X 0) ⌝ }
-    ensures above { λ _. ⌜ ((X : ℕ) → X < 2 ^ position → getD (now (sums .exit)) (2 ^ position + X) 0 ≡ getD (now (sums .entry)) X 0 + count) ⌝ }
+// Adds a position on top: the set `first` of the new position alone and each set above it has the sum of the set without the
+// position, and `count` more.
+fn add_position(sums: &mut [u64], first: usize, count: u32)
+    requires whole { ⌜ first + first ≤ length (now sums) ⌝ }
+    requires low { ⌜ ((X : ℕ) → X < first → getD (now sums) X 0 < 2 ^ 63) ⌝ }
+    ensures below { λ _. ⌜ ((X : ℕ) → X < first → getD (now (sums .exit)) X 0 ≡ getD (now (sums .entry)) X 0) ⌝ }
+    ensures above { λ _. ⌜ ((X : ℕ) → X < first → getD (now (sums .exit)) (first + X) 0 ≡ getD (now (sums .entry)) X 0 + count) ⌝ }
 {
-    let first = only(position);
     for set in 0..first {
         sums[first + set] = sums[set] + u64::from(count);
     }
@@ -43,7 +42,7 @@ pub fn fill_sums(trays: &[u32], sums: &mut [u64])
 {
     sums[0] = 0;
     for position in 0..trays.len() {
-        add_position(sums, position, trays[position]);
+        add_position(sums, only(position), trays[position]);
     }
 }
 
@@ -123,13 +122,7 @@ fn left_without(caps: &[u32], sums: &[u64], trays: &[u32], set: usize, other: us
 }
 
 // The room of a position with the trays of another put to 0; one that is not on the side changes nothing.
-pub fn room_without(
-    caps: &[u32],
-    sums: &[u64],
-    trays: &[u32],
-    position: usize,
-    other: usize,
-) -> u32
+pub fn room_without(caps: &[u32], sums: &[u64], trays: &[u32], position: usize, other: usize) -> u32
     requires summed { ⌜ Sums (now trays) (now sums) ⌝ }
     requires capped { ⌜ length (now caps) ≡ 2 ^ length (now trays) ⌝ }
     requires on { ⌜ position < length (now trays) ⌝ }

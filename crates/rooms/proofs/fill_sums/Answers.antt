@@ -12,12 +12,17 @@ loop-position-holds c =
 
 pub add-position-requires : need.add-position-requires
 add-position-requires c κs = record {
-  whole = omega (arith, length-set (c .args .sums .now) 0 0, sets-on (c .loop-position .position) (length (c .args .trays .now)) (c .loop-position-test .taken));
-  narrow = omega arith;
-  low = λ X l. omega (arith, c .loop-position .inv .1 X l);
+  whole =
+      omega (
+        arith,
+        length-set (c .args .sums .now) 0 0,
+        sets-on (c .loop-position .position) (length (c .args .trays .now)) (c .loop-position-test .taken),
+      );
+  low = λ X l. omega (arith, c .loop-position .inv .1 X (omega (arith, c .only .ensures)));
 }
 
 pub loop-position-again : need.loop-position-again
 loop-position-again c =
-    loaded-more (at (c .args .trays .now)) (c .loop-position .sums) (c .add-position .last .sums) (c .loop-position .position)
-    (omega (arith, c .typed .trays (c .loop-position .position))) (c .loop-position .inv) (c .add-position .ensures .below, c .add-position .ensures .above)
+    loaded-more (at (c .args .trays .now)) (c .loop-position .sums) (c .add-position .last .sums) (c .loop-position .position) (c .only .result)
+    (c .only .ensures) (omega (arith, c .typed .trays (c .loop-position .position))) (c .loop-position .inv)
+    (c .add-position .ensures .below, c .add-position .ensures .above)

@@ -1,11 +1,8 @@
-use mathlib.Core.Path.{_≡_, sym, ap, _∙_}
-use mathlib.Core.Bool.{true, false}
+use mathlib.Core.Path.{_≡_, sym, _∙_}
 use Prim.Native.Nat.{ℕ, _^_}
 use native.Mathlib.Omega.{arith}
 use lib.ListN.{length}
 use Rattle.std.proofs.shelf.Bits.{pow-below}
-use Rattle.polymatroid.specs.Sets.{has}
-use Rattle.polymatroid.specs.Side.{left}
 use Rattle.polymatroid.specs.Room.{zeroed}
 use Rattle.rooms.specs.Rooms.{at}
 use Rattle.rooms.proofs.Rounds.{over-none, over-more, over-all}
@@ -21,10 +18,9 @@ left-without-lowest-requires c κs = record {
 
 pub loop-set-holds : need.loop-set-holds
 loop-set-holds c =
-    let k = length (c .args .trays .now) in
-    let w : ℕ → ℕ = zeroed (at (c .args .trays .now)) (c .args .other) in
-    c .left-without-lowest .ensures ∙ ap (left k (at (c .args .caps .now)) w) (c .only .ensures)
-    ∙ sym (over-none k (at (c .args .caps .now)) w (c .args .position))
+    c .left-without-lowest .ensures
+    ∙ over-none (length (c .args .trays .now)) (at (c .args .caps .now)) (zeroed (at (c .args .trays .now)) (c .args .other)) (c .args .position)
+    (c .only .result) (c .only .ensures)
 
 pub loop-set-again : need.loop-set-again
 loop-set-again c =

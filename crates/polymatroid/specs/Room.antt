@@ -1,9 +1,16 @@
--- What rooms tell: which positions are full, which lie in a tight set, and that one function answers it all.
+-- Tight sets uncross other sets, and rooms tell which positions lie in a tight set.
 use mathlib.Core.Path.{_≡_}
 use mathlib.Core.Bool.{cond}
-use Prim.Native.Nat.{ℕ, _<_}
+use Prim.Native.Nat.{ℕ, _+_, _^_, _≤_, _<_}
+use lib.Bits.{bitAnd, bitOr}
 use lib.Dec.{eqb}
-use Rattle.polymatroid.specs.Side.{In, Caps, Within, Full, room, roomBut, tightSet}
+use Rattle.polymatroid.specs.Side.{load, Tight, In, Caps, Within, Full, room, roomBut, tightSet}
+
+-- a set crossed with a tight set: neither what they share nor what they make has more left below its cap than the set has
+abbrev pub Uncrossing : Type 0
+Uncrossing =
+    (k : ℕ) (cap w : ℕ → ℕ) → Caps k cap → Within k cap w → (X Y : ℕ) → X < 2 ^ k → Tight k cap w Y
+    → (cap (bitAnd X Y) + load w k X ≤ cap X + load w k (bitAnd X Y)) × (cap (bitOr X Y) + load w k X ≤ cap X + load w k (bitOr X Y))
 
 -- the trays w, with those of position g put to 0
 unfoldable pub zeroed : (ℕ → ℕ) → ℕ → ℕ → ℕ

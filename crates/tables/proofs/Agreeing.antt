@@ -1,17 +1,16 @@
 -- Meanings that agree have the same positions, the same lanes at them and the same laws.
 use mathlib.Core.Path.{_≡_, refl, sym, ap, subst⁻¹, _∙_}
-use mathlib.Core.Bool.{Bool, true, not, cond}
+use mathlib.Core.Bool.{Bool, not, cond}
 use Prim.Native.Nat.{ℕ, zero, suc, _+_, _^_, _≤_, _<_}
 use native.Mathlib.Omega.{arith}
 use lib.Bits.{bitAnd, bitOr, or-lt, and-lt}
 use lib.Dec.{eqb}
 use lib.Pow.{pow-pos}
 use Rattle.std.proofs.shelf.Bits.{pow-below}
-use Rattle.polymatroid.specs.Side.{Caps}
 use Rattle.polymatroid.specs.Laws.{Four-laws}
 use Rattle.floor.specs.Floor.{Floor-rules, leaving, entering, on, place, count, laneAt}
 use Rattle.floor.specs.Meaning.{Meaning, Lawful}
-use Rattle.floor.specs.Numbers.{top-cap, most-on-side}
+use Rattle.floor.specs.Numbers.{top-cap}
 use Rattle.floor.proofs.Places.{laneAt-below, laneAt-on, laneAt-placed, laneAt-is}
 use Rattle.tables.specs.Agreement.{Agrees}
 

@@ -3,16 +3,16 @@ use mathlib.Core.Path.{_≡_, refl, sym, ap, subst, subst⁻¹, _∙_}
 use mathlib.Core.Bool.{Bool, true, false}
 use mathlib.Core.List.{List, [], _∷_, _++_}
 use mathlib.Core.Logic.{inl, inr}
-use Prim.Native.Nat.{ℕ, _+_, _*_, _^_, _≤_, _<_}
+use Prim.Native.Nat.{ℕ, _+_, _^_, _≤_, _<_}
 use native.Mathlib.Omega.{arith}
 use lib.ListN.{length, getD, length-append}
-use Rattle.std.proofs.shelf.Lists.{length-push, getD-push, getD-append-left, getD-append-add, getD-past}
+use Rattle.std.proofs.shelf.Lists.{length-push, getD-push, getD-append-left, getD-append-add}
 use Rattle.std.proofs.shelf.Counted.{length-map-counting, getD-map-counting}
 use Rattle.std.proofs.shelf.Tests.{cases-lt, eq-eqb}
-use Rattle.floor.specs.Floor.{Floor, Floor-rules, leaving, entering, side, sides, end-of, station-of, on, place, count, laneAt, width}
+use Rattle.floor.specs.Floor.{Floor, leaving, entering, side, sides, end-of, station-of, on, place, count, laneAt, width}
 use Rattle.floor.specs.Meaning.{Meaning}
 use Rattle.floor.proofs.Places.{end-of-side, station-of-side, side-below, place-below, laneAt-placed, laneAt-place}
-use Rattle.tables.specs.Parts.{lane-in, side-in, table-meaning}
+use Rattle.tables.specs.Parts.{side-in, table-meaning}
 use Rattle.tables.specs.Agreement.{Agrees}
 use Rattle.tables.specs.Told.{caps-on, Side-told, Sides-told, Side-capped, Sides-capped, Lane-told, Lanes-told}
 use Rattle.tables.specs.declared.tables.TableLane.{TableLane}
@@ -31,19 +31,25 @@ each-push P rows row d n long before here k h =
           subst⁻¹ (P k) (getD-push rows row d k (long ∙ same)) (subst (λ v. P v row) same here)
     ]
 
-pub sides-more : (F : Floor) (n : ℕ) (rows : List TableSide) (row : TableSide) → Sides-told F n rows → Side-told F n row
-    → Sides-told F (n + 1) (rows ++ row ∷ [])
-sides-more F n rows row t h = record {
-  all = length-push rows row ∙ ap (λ v. v + 1) (t .all);
-  each = each-push (Side-told F) rows row _ n (t .all) (t .each) h;
-}
+pub sides-more : (F : Floor) (n : ℕ) (rows after : List TableSide) (row : TableSide) → after ≡ rows ++ row ∷ [] → Sides-told F n rows
+    → Side-told F n row → Sides-told F (n + 1) after
+sides-more F n rows after row is t h = subst⁻¹ (Sides-told F (n + 1)) is more
+  where
+    more : Sides-told F (n + 1) (rows ++ row ∷ [])
+    more = record {
+      all = length-push rows row ∙ ap (λ v. v + 1) (t .all);
+      each = each-push (Side-told F) rows row _ n (t .all) (t .each) h;
+    }
 
-pub lanes-more : (F : Floor) (n : ℕ) (rows : List TableLane) (row : TableLane) → Lanes-told F n rows → Lane-told F n row
-    → Lanes-told F (n + 1) (rows ++ row ∷ [])
-lanes-more F n rows row t h = record {
-  all = length-push rows row ∙ ap (λ v. v + 1) (t .all);
-  each = each-push (Lane-told F) rows row _ n (t .all) (t .each) h;
-}
+pub lanes-more : (F : Floor) (n : ℕ) (rows after : List TableLane) (row : TableLane) → after ≡ rows ++ row ∷ [] → Lanes-told F n rows
+    → Lane-told F n row → Lanes-told F (n + 1) after
+lanes-more F n rows after row is t h = subst⁻¹ (Lanes-told F (n + 1)) is more
+  where
+    more : Lanes-told F (n + 1) (rows ++ row ∷ [])
+    more = record {
+      all = length-push rows row ∙ ap (λ v. v + 1) (t .all);
+      each = each-push (Lane-told F) rows row _ n (t .all) (t .each) h;
+    }
 
 -- caps that are added change none that are there
 capped-longer : (M : Meaning) (s : ℕ) (row : TableSide) (caps more : List ℕ) → Side-capped M s row caps → Side-capped M s row (caps ++ more)
@@ -62,11 +68,16 @@ capped-here M s row caps at = record {
       ∙ getD-map-counting (M .cap (end-of s) (station-of s)) 0 (2 ^ width (M .floor) s) X X 0 h (omega arith);
 }
 
-pub capped-more : (M : Meaning) (n : ℕ) (rows : List TableSide) (row : TableSide) (caps : List ℕ) → length rows ≡ n → row .start ≡ length caps
-    → Sides-capped M n rows caps → Sides-capped M (n + 1) (rows ++ row ∷ []) (caps ++ caps-on M n)
-capped-more M n rows row caps long at t =
-    each-push (λ s r. Side-capped M s r (caps ++ caps-on M n)) rows row _ n long
-    (λ s h. capped-longer M s (side-in rows s) caps (caps-on M n) (t s h)) (capped-here M n row caps at)
+pub capped-more : (M : Meaning) (n : ℕ) (rows after : List TableSide) (row : TableSide) (caps longer : List ℕ) → after ≡ rows ++ row ∷ []
+    → longer ≡ caps ++ caps-on M n → length rows ≡ n → row .start ≡ length caps → Sides-capped M n rows caps
+    → Sides-capped M (n + 1) after longer
+capped-more M n rows after row caps longer is added long at t =
+    subst⁻¹ (λ v. Sides-capped M (n + 1) v longer) is (subst⁻¹ (Sides-capped M (n + 1) (rows ++ row ∷ [])) added more)
+  where
+    more : Sides-capped M (n + 1) (rows ++ row ∷ []) (caps ++ caps-on M n)
+    more =
+        each-push (λ s r. Side-capped M s r (caps ++ caps-on M n)) rows row _ n long
+        (λ s h. capped-longer M s (side-in rows s) caps (caps-on M n) (t s h)) (capped-here M n row caps at)
 
 -- ---- the position of a lane
 

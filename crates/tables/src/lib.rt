@@ -8,7 +8,7 @@ ghost use lib.ListN.{length, getD};
 ghost use Rattle.std.specs.Of.Vec.{vec-items, vec-len};
 ghost use Rattle.std.specs.Vec.{made};
 ghost use Rattle.floor.specs.Numbers.{most-stations, most-on-side};
-ghost use Rattle.floor.specs.Floor.{leaving, entering, sides as all-sides, width as side-width, end-of, station-of, laneAt};
+ghost use Rattle.floor.specs.Floor.{leaving, entering, sides as all-sides, side as side-number, width as side-width, end-of, station-of, laneAt};
 ghost use Rattle.tables.specs.Agreement.{Agrees};
 ghost use Rattle.tables.specs.Parts.{side-in};
 ghost use Rattle.tables.specs.Tables.{meaning-in};
@@ -28,11 +28,12 @@ pub use tables::Tables;
 pub fn tabulate<P: Plant>(heap: Global, plant: &P) -> Result<Tables, AllocError>
     ensures { λ r. ⌜ made r (λ t. Agrees (meaning (now (plant .entry))) (meaning-in t)) ⌝ }
 {
+    let stations = plant.stations();
     let mut caps = Vec::new(heap);
-    let sides = table_sides(heap, plant, &mut caps)?;
+    let sides = table_sides(heap, plant, stations, &mut caps)?;
     let lanes = table_lanes(heap, plant, sides.as_slice())?;
     Ok(Tables {
-        stations: plant.stations(),
+        stations,
         stock: plant.stock(),
         despatch: plant.despatch(),
         lanes,
@@ -49,15 +50,14 @@ impl Tables {
         ensures each { λ r. ⌜ ((X : ℕ) → X < 2 ^ side-width (meaning-in (now (self .entry)) .floor) side → getD (now r) X 0 ≡ meaning-in (now (self .entry)) .cap (end-of side) (station-of side) X) ⌝ }
     {
         let row = self.row_of(side);
-        let start = row.start;
-        let end = start + (1usize << row.width);
-        &self.caps[start..end]
+        part(self.caps.as_slice(), row.start, sets_of(row.width))
     }
 
     // The row of a side.
     fn row_of(&self, side: usize) -> TableSide
         requires { ⌜ side < 2 * now self .stations ⌝ }
-        ensures row { λ r. ⌜ r ≡ side-in (vec-items (now (self .entry) .sides)) side ⌝ }
+        ensures start { λ r. ⌜ r .start ≡ side-in (vec-items (now (self .entry) .sides)) (side-number (end-of side) (station-of side)) .start ⌝ }
+        ensures all { λ r. ⌜ r .width ≡ side-width (meaning-in (now (self .entry)) .floor) side ⌝ }
         ensures few { λ r. ⌜ r .width ≤ most-on-side ⌝ }
         ensures held { λ r. ⌜ r .start + 2 ^ r .width ≤ vec-len (now (self .entry) .caps) ⌝ }
     {
@@ -65,17 +65,37 @@ impl Tables {
     }
 }
 
+// How many sets of lanes a side of this width has.
+fn sets_of(width: usize) -> usize
+    requires { ⌜ width ≤ most-on-side ⌝ }
+    ensures { λ r. ⌜ r ≡ 2 ^ width ⌝ }
+{
+    1 << width
+}
+
+// The numbers from `start` on, as many as `count`.
+fn part(numbers: &[u32], start: usize, count: usize) -> &[u32]
+    requires { ⌜ start + count ≤ length (now numbers) ⌝ }
+    ensures all { λ r. ⌜ length (now r) ≡ count ⌝ }
+    ensures each { λ r. ⌜ ((k : ℕ) → k < count → getD (now r) k 0 ≡ getD (now (numbers .entry)) (start + k) 0) ⌝ }
+{
+    let end = start + count;
+    &numbers[start..end]
+}
+
 // The row of each side. The caps of the sides are added to `caps`, one side after another.
 fn table_sides<P: Plant>(
     heap: Global,
     plant: &P,
+    stations: usize,
     caps: &mut Vec<u32>,
 ) -> Result<Vec<TableSide>, AllocError>
+    requires { ⌜ stations ≡ meaning (now plant) .floor .stations ⌝ }
     ensures told { λ r. ⌜ made r (λ v. Sides-told (meaning (now (plant .entry)) .floor) (all-sides (meaning (now (plant .entry)) .floor)) (vec-items v)) ⌝ }
     ensures capped { λ r. ⌜ made r (λ v. Sides-capped (meaning (now (plant .entry))) (all-sides (meaning (now (plant .entry)) .floor)) (vec-items v) (vec-items (now (caps .exit)))) ⌝ }
 {
     let mut sides = Vec::new(heap);
-    for side in 0..2 * plant.stations() {
+    for side in 0..2 * stations {
         let row = add_side(plant, side, caps)?;
         sides.push(row)?;
     }
@@ -135,11 +155,19 @@ fn add_caps<P: Plant>(
     requires few { ⌜ width ≤ most-on-side ⌝ }
     ensures { λ r. ⌜ made r (λ _. vec-items (now (caps .exit)) ≡ vec-items (now (caps .entry)) ++ caps-on (meaning (now (plant .entry))) side) ⌝ }
 {
-    let sets = 1usize << width;
-    for set in 0..sets {
-        caps.push(plant.cap(side, set).unwrap())?;
+    for set in 0..sets_of(width) {
+        caps.push(cap_at(plant, side, set))?;
     }
     Ok(())
+}
+
+// The cap of a set of a side's lanes.
+fn cap_at<P: Plant>(plant: &P, side: usize, set: usize) -> u32
+    requires on_floor { ⌜ side < all-sides (meaning (now plant) .floor) ⌝ }
+    requires there { ⌜ set < 2 ^ side-width (meaning (now plant) .floor) side ⌝ }
+    ensures { λ r. ⌜ r ≡ meaning (now (plant .entry)) .cap (end-of side) (station-of side) set ⌝ }
+{
+    plant.cap(side, set).unwrap()
 }
 
 // The row of each lane.

@@ -1,5 +1,4 @@
 -- The lane is found among the lanes of the sides where it ends.
-use mathlib.Core.Path.{_≡_}
 use Prim.Native.Nat.{_+_, _*_}
 use native.Mathlib.Omega.{arith}
 use Rattle.floor.specs.Floor.{leaving, entering}

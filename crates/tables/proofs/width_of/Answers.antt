@@ -1,6 +1,5 @@
 -- A side of a lawful plant has at most eight lanes.
 use mathlib.Core.Path.{_≡_}
-use Prim.Native.Nat.{_≤_}
 use native.Mathlib.Omega.{arith}
 use Rattle.std.proofs.shelf.Ways.{tells}
 use Rattle.floor.specs.Floor.{end-of, station-of, width}

@@ -1,0 +1,17 @@
+-- What is measured of the trays on a floor.
+use mathlib.Core.Path.{_≡_}
+use Prim.Native.Nat.{ℕ, _≤_, _<_}
+use lib.ListN.{getD}
+use Rattle.std.specs.Of.Vec.{vec-len}
+use Rattle.floor.specs.Numbers.{most-on-side}
+use Rattle.floor.specs.Floor.{width, end-of, station-of, laneAt}
+use Rattle.tables.specs.Tables.{meaning-in}
+use Rattle.tables.specs.declared.tables.Tables.{Tables}
+use Rattle.tables.specs.declared.tables.TableSide.{TableSide}
+
+-- a row of the tables has the lanes of the side s
+pub record Row (t : Tables) (s : ℕ) (row : TableSide) : Type 0 where
+  pub all : row .width ≡ width (meaning-in t .floor) s
+  pub few : row .width ≤ most-on-side
+  pub each : (p : ℕ) → p < row .width → getD (row .numbers) p 0 ≡ laneAt (meaning-in t .floor) (end-of s) (station-of s) p
+  pub below : (p : ℕ) → p < row .width → getD (row .numbers) p 0 < vec-len (t .lanes)

@@ -1,0 +1,61 @@
+// What is measured of the trays on a floor: how much room each lane has at its two sides, and how much it would have if another
+// lane carried no trays. Each question goes once over the sets of one side.
+ghost use mathlib.Core.Path.{_≡_};
+ghost use Prim.Native.Nat.{ℕ, _*_, _<_};
+ghost use lib.ListN.{length, getD};
+ghost use Rattle.std.specs.Of.Vec.{vec-len};
+ghost use Rattle.floor.specs.Floor.{side, width, end-of, station-of, place};
+ghost use Rattle.network.specs.Plans.{trays as trays-on};
+ghost use Rattle.rooms.specs.Rooms.{at};
+ghost use Rattle.tables.specs.Tables.{meaning-in};
+ghost use Rattle.planner.specs.ByRooms.{room-zeroing};
+ghost use Rattle.planner.specs.Measures.{Row};
+use plant::MOST_ON_SIDE;
+use rooms::fill_sums;
+use rooms::room_without;
+use tables::TableSide;
+use tables::Tables;
+
+// A side has at most so many sets.
+const MOST_SETS: usize = 1 << MOST_ON_SIDE;
+
+// A side of the floor: how many lanes it has, and their numbers by position.
+fn side_row(tables: &Tables, side: usize) -> TableSide
+    requires { ⌜ side < 2 * now tables .stations ⌝ }
+    ensures { λ r. ⌜ Row (now (tables .entry)) side r ⌝ }
+{
+    tables.sides[side]
+}
+
+// The trays at the positions of a side.
+fn trays_on_side(tables: &Tables, trays: &[u32], side: usize) -> [u32; MOST_ON_SIDE]
+    requires side { ⌜ side < 2 * now tables .stations ⌝ }
+    requires trays { ⌜ length (now trays) ≡ vec-len (now tables .lanes) ⌝ }
+    ensures { λ r. ⌜ ((p : ℕ) → p < width (meaning-in (now (tables .entry)) .floor) side → getD r p 0 ≡ trays-on (meaning-in (now (tables .entry))) (at (now (trays .entry))) (end-of side) (station-of side) p) ⌝ }
+{
+    let row = side_row(tables, side);
+    let mut on = [0; MOST_ON_SIDE];
+    for position in 0..row.width {
+        on[position] = trays[row.numbers[position]];
+    }
+    on
+}
+
+// The side of a lane where it enters a station, or where it leaves one.
+fn side_of(tables: &Tables, lane: usize, entering: bool) -> usize
+    requires { ⌜ lane < vec-len (now tables .lanes) ⌝ }
+    ensures is { λ r. ⌜ r ≡ side entering (meaning-in (now (tables .entry)) .floor .end entering lane) ⌝ }
+    ensures on { λ r. ⌜ r < 2 * now (tables .entry) .stations ⌝ }
+{
+    let row = tables.lanes[lane];
+    if entering { 2 * row.to + 1 } else { 2 * row.from }
+}
+
+// The position of a lane at that side.
+fn position_of(tables: &Tables, lane: usize, entering: bool) -> usize
+    requires { ⌜ lane < vec-len (now tables .lanes) ⌝ }
+    ensures { λ r. ⌜ r ≡ place (meaning-in (now (tables .entry)) .floor) entering (meaning-in (now (tables .entry)) .floor .end entering lane) lane ⌝ }
+{
+    let row = tables.lanes[lane];
+    if entering { row.in_position } else { row.out_position }
+}

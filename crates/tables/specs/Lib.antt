@@ -1,0 +1,4 @@
+pub mod Parts
+pub mod Tables
+pub mod Agreement
+pub mod Told

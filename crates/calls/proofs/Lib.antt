@@ -1,0 +1,4 @@
+pub mod SameTrays
+pub mod Loads
+pub mod Moves
+pub mod CutsRead

@@ -44,8 +44,8 @@ module _ (M : Meaning) (laws : Lawful M) (n n′ u u′ : ℕ → Bool) (same : 
       ap₂ (λ a b. a && not b) (same (M .floor .end false e) (laws .rules .end-on false e l)) (same (M .floor .end true e) (laws .rules .end-on true e l))
 
   module _ (upper : (e : ℕ) → e < M .floor .lanes → crosses M n′ e ≡ true → u e ≡ u′ e) where
-    both-same : (w w′ : Bool → Bool) → ((b : Bool) → w b ≡ w′ b) → (e : ℕ) → e < M .floor .lanes → (crosses M n e && w (u e)) ≡ (crosses M n′ e && w (u′ e))
-    both-same w w′ q e l = by (crosses M n′ e) refl
+    both-same : (w : Bool → Bool) (e : ℕ) → e < M .floor .lanes → (crosses M n e && w (u e)) ≡ (crosses M n′ e && w (u′ e))
+    both-same w e l = by (crosses M n′ e) refl
       where
         by : (b : Bool) → crosses M n′ e ≡ b → (crosses M n e && w (u e)) ≡ (crosses M n′ e && w (u′ e))
         by true o = ap₂ (λ a b. a && w b) (crosses-same e l) (upper e l o)
@@ -57,10 +57,10 @@ module _ (M : Meaning) (laws : Lawful M) (n n′ u u′ : ℕ → Bool) (same : 
         ap₂ (λ a b. a + b)
         (sum-same (λ i. cond (n i) (M .cap false i (setOf M false i (λ e. crosses M n e && u e))) 0) (λ i. cond (n′ i) (M .cap false i (setOf M false i (λ e. crosses M n′ e && u′ e))) 0) (M .floor .stations)
         (λ i l. ap₂ (λ b X. cond b (M .cap false i X) 0) (same i l)
-        (setOf-same M false i (λ e. crosses M n e && u e) (λ e. crosses M n′ e && u′ e) (both-same (λ b. b) (λ b. b) (λ b. refl)))))
+        (setOf-same M false i (λ e. crosses M n e && u e) (λ e. crosses M n′ e && u′ e) (both-same (λ b. b)))))
         (sum-same (λ i. cond (n i) 0 (M .cap true i (setOf M true i (λ e. crosses M n e && not (u e))))) (λ i. cond (n′ i) 0 (M .cap true i (setOf M true i (λ e. crosses M n′ e && not (u′ e))))) (M .floor .stations)
         (λ i l. ap₂ (λ b X. cond b 0 (M .cap true i X)) (same i l)
-        (setOf-same M true i (λ e. crosses M n e && not (u e)) (λ e. crosses M n′ e && not (u′ e)) (both-same not not (λ b. refl)))))
+        (setOf-same M true i (λ e. crosses M n e && not (u e)) (λ e. crosses M n′ e && not (u′ e)) (both-same not))))
 
 -- ---- the bytes
 
@@ -72,53 +72,50 @@ byte-upper : (b : Bool) → eqb (cond b 85 76) 85 ≡ b
 byte-upper true = refl
 byte-upper false = refl
 
-byte-station : (b : Bool) → (cond b 1 0 ≡ 1) ⊎ (cond b 1 0 ≡ 0)
-byte-station true = inl refl
-byte-station false = inr refl
+either-byte : (b : Bool) (x y : ℕ) → (cond b x y ≡ x) ⊎ (cond b x y ≡ y)
+either-byte true x y = inl refl
+either-byte false x y = inr refl
 
-byte-lane : (b : Bool) → (cond b 85 76 ≡ 85) ⊎ (cond b 85 76 ≡ 76)
-byte-lane true = inl refl
-byte-lane false = inr refl
+module _ (M : Meaning) (laws : Lawful M) (f : ℕ → ℕ) where
+  abbrev ls : List ℕ
+  ls = tray-list (M .floor .lanes) (lane-byte M f)
 
-pub cut-shown : (M : Meaning) → Lawful M → (f : ℕ → ℕ) → Feasible M f → step M f ≡ none
-    → Shows-cut M f (tray-list (M .floor .lanes) (lane-byte M f)) (tray-list (M .floor .stations) (station-byte M f))
-cut-shown M laws f ok h = record {
-  lanes = listed-length (M .floor .lanes) (lane-byte M f);
-  stations = listed-length (M .floor .stations) (station-byte M f);
-  near-or-far = λ i l. subst⁻¹ (λ n. (n ≡ 1) ⊎ (n ≡ 0)) (station i l) (byte-station (N i));
-  outside = λ e l o. lane e l ∙ ap (λ b. cond b (cond (unlabelled (labels M f) e) 85 76) 45) (sym (cross e l) ∙ o);
-  crossing = λ e l o. subst⁻¹ (λ n. (n ≡ 85) ⊎ (n ≡ 76)) (crossed e l (sym (cross e l) ∙ o)) (byte-lane (U e));
-  stock-near = station (stock (M .floor)) (laws .rules .pole-on false) ∙ ap (λ b. cond b 1 0) (best .stock-near);
-  despatch-far = station (despatch (M .floor)) (laws .rules .pole-on true) ∙ ap (λ b. cond b 1 0) (best .despatch-far);
-  exact = capacity-same M laws (shown-near ss) N (shown-upper ls) U seen (λ e l o. ap (λ n. eqb n 85) (crossed e l o) ∙ byte-upper (U e)) ∙ best .cut;
-  no-cut-less = best .no-cut-less;
-}
-  where
-    best = finished-is-best M f laws ok h
+  abbrev ss : List ℕ
+  ss = tray-list (M .floor .stations) (station-byte M f)
 
-    ls : List ℕ
-    ls = tray-list (M .floor .lanes) (lane-byte M f)
+  abbrev N : ℕ → Bool
+  N = near M f (labels M f)
 
-    ss : List ℕ
-    ss = tray-list (M .floor .stations) (station-byte M f)
+  abbrev U : ℕ → Bool
+  U = unlabelled (labels M f)
 
-    N : ℕ → Bool
-    N = near M f (labels M f)
+  station : (i : ℕ) → i < M .floor .stations → at ss i ≡ cond (N i) 1 0
+  station i l = listed-at (M .floor .stations) (station-byte M f) i l
 
-    U : ℕ → Bool
-    U = unlabelled (labels M f)
+  lane : (e : ℕ) → e < M .floor .lanes → at ls e ≡ lane-byte M f e
+  lane e l = listed-at (M .floor .lanes) (lane-byte M f) e l
 
-    station : (i : ℕ) → i < M .floor .stations → at ss i ≡ cond (N i) 1 0
-    station i l = listed-at (M .floor .stations) (station-byte M f) i l
+  seen : (i : ℕ) → i < M .floor .stations → shown-near ss i ≡ N i
+  seen i l = ap (λ n. eqb n 1) (station i l) ∙ byte-near (N i)
 
-    lane : (e : ℕ) → e < M .floor .lanes → at ls e ≡ lane-byte M f e
-    lane e l = listed-at (M .floor .lanes) (lane-byte M f) e l
+  cross : (e : ℕ) → e < M .floor .lanes → crosses M (shown-near ss) e ≡ crosses M N e
+  cross e l = crosses-same M laws (shown-near ss) N (shown-upper ls) U seen e l
 
-    seen : (i : ℕ) → i < M .floor .stations → shown-near ss i ≡ N i
-    seen i l = ap (λ n. eqb n 1) (station i l) ∙ byte-near (N i)
+  crossed : (e : ℕ) → e < M .floor .lanes → crosses M N e ≡ true → at ls e ≡ cond (U e) 85 76
+  crossed e l o = lane e l ∙ ap (λ b. cond b (cond (U e) 85 76) 45) o
 
-    cross : (e : ℕ) → e < M .floor .lanes → crosses M (shown-near ss) e ≡ crosses M N e
-    cross e l = crosses-same M laws (shown-near ss) N (shown-upper ls) U seen e l
-
-    crossed : (e : ℕ) → e < M .floor .lanes → crosses M N e ≡ true → at ls e ≡ cond (U e) 85 76
-    crossed e l o = lane e l ∙ ap (λ b. cond b (cond (U e) 85 76) 45) o
+  pub cut-shown : Feasible M f → step M f ≡ none
+      → Shows-cut M f (tray-list (M .floor .lanes) (lane-byte M f)) (tray-list (M .floor .stations) (station-byte M f))
+  cut-shown ok h =
+      let best = finished-is-best M f laws ok h in
+      record {
+        lanes = listed-length (M .floor .lanes) (lane-byte M f);
+        stations = listed-length (M .floor .stations) (station-byte M f);
+        near-or-far = λ i l. subst⁻¹ (λ (n : ℕ). (n ≡ 1) ⊎ (n ≡ 0)) (station i l) (either-byte (N i) 1 0);
+        outside = λ e l o. lane e l ∙ ap (λ b. cond b (cond (U e) 85 76) 45) (sym (cross e l) ∙ o);
+        crossing = λ e l o. subst⁻¹ (λ (n : ℕ). (n ≡ 85) ⊎ (n ≡ 76)) (crossed e l (sym (cross e l) ∙ o)) (either-byte (U e) 85 76);
+        stock-near = station (stock (M .floor)) (laws .rules .pole-on false) ∙ ap (λ b. cond b 1 0) (best .stock-near);
+        despatch-far = station (despatch (M .floor)) (laws .rules .pole-on true) ∙ ap (λ b. cond b 1 0) (best .despatch-far);
+        exact = capacity-same M laws (shown-near ss) N (shown-upper ls) U seen (λ e l o. ap (λ n. eqb n 85) (crossed e l o) ∙ byte-upper (U e)) ∙ best .cut;
+        no-cut-less = best .no-cut-less;
+      }

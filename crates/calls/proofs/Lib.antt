@@ -1,4 +1,5 @@
 pub mod SameTrays
 pub mod Loads
 pub mod Moves
+pub mod Runs
 pub mod CutsRead

@@ -3,3 +3,4 @@ pub mod Loads
 pub mod Moves
 pub mod Runs
 pub mod CutsRead
+pub mod Keeps

@@ -1,20 +1,17 @@
 -- The bytes read of a finished plan show the cut of its labels.
-use mathlib.Core.Path.{_≡_, refl, sym, ap, ap₂, subst, subst⁻¹, _∙_}
+use mathlib.Core.Path.{_≡_, refl, sym, ap, ap₂, subst⁻¹, _∙_}
 use mathlib.Core.Bool.{Bool, true, false, cond, not, _&&_}
 use mathlib.Core.Logic.{_⊎_, inl, inr}
 use mathlib.Core.List.{List}
 use mathlib.Core.Option.{none}
-use Prim.Native.Nat.{ℕ, zero, suc, _+_, _^_, _≤_, _<_}
+use Prim.Native.Nat.{ℕ, zero, suc, _+_, _^_, _<_}
 use native.Mathlib.Omega.{arith}
 use lib.Dec.{eqb}
-use lib.ListN.{length}
-use Rattle.std.proofs.shelf.Tests.{cases-bool}
 use Rattle.polymatroid.specs.Sets.{code}
-use Rattle.polymatroid.specs.Kinds.{sumTo}
 use Rattle.floor.specs.Floor.{stock, despatch, count, laneAt}
 use Rattle.floor.specs.Meaning.{Meaning, Lawful}
 use Rattle.floor.proofs.Places.{laneAt-below}
-use Rattle.network.specs.Plans.{Feasible, total}
+use Rattle.network.specs.Plans.{Feasible}
 use Rattle.network.specs.Cuts.{setOf, crosses, capacity}
 use Rattle.network.proofs.Hits.{sum-same}
 use Rattle.labelling.specs.Steps.{step, labels}

@@ -3,11 +3,11 @@ use mathlib.Core.Path.{_≡_, refl, sym, ap, subst, subst⁻¹, _∙_}
 use mathlib.Core.Bool.{Bool, true, false, cond, _&&_}
 use mathlib.Core.List.{List, [], _∷_, _++_}
 use mathlib.Core.Option as option
-use Prim.Native.Nat.{ℕ, _+_, _*_, _^_, _≤_, _<_}
+use Prim.Native.Nat.{ℕ, _+_, _^_, _≤_, _<_}
 use native.Mathlib.Nat.{mul-le-mul}
 use native.Mathlib.Omega.{arith}
 use lib.Dec.{eqb}
-use lib.ListN.{length, replicate}
+use lib.ListN.{length}
 use Rattle.std.proofs.shelf.Tests.{both-ways, eqb-true, eqb-false}
 use Rattle.std.proofs.shelf.Lists.{length-replicate, length-append}
 use Rattle.std.specs.declared.option.Option.{Option}
@@ -15,13 +15,13 @@ use Rattle.std.specs.declared.option.Option.the-variants.{Some, None}
 use Rattle.std.specs.declared.result.Result.the-variants.{Ok, Err}
 use Rattle.floor.specs.Meaning.{Meaning, Lawful}
 use Rattle.network.specs.Plans.{Feasible}
-use Rattle.labelling.specs.Steps.{Move, step, made, madeAll}
+use Rattle.labelling.specs.Steps.{Move, step, madeAll}
 use Rattle.calls.specs.declared.Unfit.the-variants.{Length, Load, Unfinished}
 use Rattle.calls.specs.Events.{Answer, Event, loaded, stepped, ran, told-total, told-moves, told-trays, told-cut, History, at, base, since, marked}
 use Rattle.calls.specs.Law.{Right-moves, most-moves, No-plan-carries-more, Shows-cut, Carried, Says, Every-call-right}
-use Rattle.calls.specs.Does.{Held, held, opened, is-plan, load-answer, tray-list, step-does, run-does, lane-byte, station-byte, cut-answer, trays-answer, read-into, Does}
+use Rattle.calls.specs.Does.{Held, held, is-plan, load-answer, tray-list, step-does, lane-byte, station-byte, cut-answer, trays-answer, read-into, Does}
 use Rattle.calls.specs.Kept.{Kept, Openings-keep-the-promise, Calls-keep-the-promise}
-use Rattle.calls.proofs.SameTrays.{Ends, list-ends, same-trays, all-made-ends}
+use Rattle.calls.proofs.SameTrays.{list-ends, same-trays, all-made-ends}
 use Rattle.calls.proofs.Loads.{passed-is-plan, plan-passes, no-trays-are-plan}
 use Rattle.calls.proofs.Moves.{rights-append, made-append, made-one, rights-few, moved-not-most, finished-most}
 use Rattle.calls.proofs.Runs.{Sound, after, right-after, trays-after, sound-after, step-none, step-some, Along, run-along}
@@ -174,7 +174,7 @@ module _ (M : Meaning) (laws : Lawful M) (h : History) (s : Held) (k : Kept M h 
           subst⁻¹ (λ (p : Option (ℕ × ℕ) × Held). Kept M (stepped (p .0) ∷ h) (p .1)) (d ∙ step-some M laws s sound v q) (record {
             calls = ((s .trays, k .carried, ((v, right, refl, refl), moved-not-most M laws (at (s .trays)) (k .carried .feasible) v q)), k .calls);
             carried = carried-on (v ∷ []) (right, tt) (stepped (Some (v .amount, length (v .lanes)))) (after M laws s sound v) refl (omega arith) (sound-after M laws s sound v q)
-            (trays-after M laws s sound v q ∙ sym (made-one v (at (s .trays))));
+                (trays-after M laws s sound v q ∙ sym (made-one v (at (s .trays))));
             counted = omega (arith, k .counted, few, most-below M laws);
             finished = refl;
             no-path = λ e. absurd (both-ways false refl e);
@@ -234,8 +234,8 @@ module _ (M : Meaning) (laws : Lawful M) (h : History) (s : Held) (k : Kept M h 
       eqb-true (length ls) (M .floor .lanes) p,
       eqb-true (length ss) (M .floor .stations) q,
       subst⁻¹ (λ l. Shows-cut M (at (s .trays)) l ss′) (e .0)
-      (subst⁻¹ (Shows-cut M (at (s .trays)) (tray-list (M .floor .lanes) (lane-byte M (at (s .trays))))) (e .1)
-      (cut-shown M laws (at (s .trays)) (sound .feasible) (sound .no-path o))),
+          (subst⁻¹ (Shows-cut M (at (s .trays)) (tray-list (M .floor .lanes) (lane-byte M (at (s .trays))))) (e .1)
+          (cut-shown M laws (at (s .trays)) (sound .feasible) (sound .no-path o))),
     )
     cut-says true true false o p q e = (sym (k .finished) ∙ o, λ g. eqb-false (length ss) (M .floor .stations) q (g .1), e .0, e .1)
     cut-says true false b o p q e = (sym (k .finished) ∙ o, λ g. eqb-false (length ls) (M .floor .lanes) p (g .0), e .0, e .1)

@@ -2,10 +2,10 @@
 use mathlib.Core.Path.{_≡_, refl, sym, ap, subst, subst⁻¹, _∙_, fun-ext}
 use mathlib.Core.Bool.{Bool, true, false, cond, _&&_, _||_}
 use mathlib.Core.Logic.{inl, inr}
-use Prim.Native.Nat.{ℕ, zero, suc, _^_, _≤_, _<_}
+use Prim.Native.Nat.{ℕ, zero, suc, _^_}
 use native.Mathlib.Omega.{arith}
 use lib.Dec.{eqb, leb}
-use lib.ListN.{length, replicate}
+use lib.ListN.{replicate}
 use Rattle.std.proofs.shelf.Tests.{cases-bool, cases-lt, cases-eq, and-parts, and-from, or-cases, or-left, or-right, eqb-true, eq-eqb, leb-true, le-leb}
 use Rattle.std.proofs.shelf.Lists.{length-replicate, getD-replicate}
 use Rattle.polymatroid.specs.Sets.{has}
@@ -15,7 +15,7 @@ use Rattle.polymatroid.proofs.Tables.{every-at, every-from}
 use Rattle.floor.specs.Floor.{stock, despatch, side, sides, width, end-of, station-of, on, count}
 use Rattle.floor.specs.Meaning.{Meaning}
 use Rattle.floor.proofs.Places.{end-of-side, station-of-side, side-below, station-below}
-use Rattle.network.specs.Plans.{trays, through, Fits, Balanced, Feasible}
+use Rattle.network.specs.Plans.{trays, through, Feasible}
 use Rattle.network.proofs.Hits.{sum-none}
 use Rattle.calls.specs.Events.{at}
 use Rattle.calls.specs.Does.{side-within, station-balanced, is-plan}

@@ -1,18 +1,18 @@
 -- The right moves are those that steps make: they keep the trays a plan, carry more, and are few.
 use mathlib.Core.Path.{_≡_, refl, sym, ap, ap₂, subst⁻¹, _∙_}
-use mathlib.Core.Bool.{Bool, true, false}
+use mathlib.Core.Bool.{true, false}
 use mathlib.Core.Logic.{_⊎_, inl, inr}
 use mathlib.Core.List.{List, [], _∷_, _++_}
 use mathlib.Core.Option.{Option, none, some}
-use Prim.Native.Nat.{ℕ, zero, suc, _+_, _*_, _≤_, _<_}
+use Prim.Native.Nat.{ℕ, _≤_, _<_}
 use native.Mathlib.Omega.{arith}
 use lib.ListN.{length, getD}
 use Rattle.std.proofs.shelf.Tests.{cases-eq, cases-lt}
 use Rattle.floor.specs.Meaning.{Meaning, Lawful}
 use Rattle.network.specs.States.{State, Pole, Plus, Minus, lane-number}
-use Rattle.network.specs.Plans.{Feasible, Fits, FitsBy, total}
+use Rattle.network.specs.Plans.{Feasible}
 use Rattle.labelling.specs.Amount.{amountOf}
-use Rattle.labelling.specs.Augmenting.{Augments, Before}
+use Rattle.labelling.specs.Augmenting.{Before}
 use Rattle.labelling.specs.Steps.{Move, step, made, madeAll, Follow}
 use Rattle.labelling.specs.Theorems.{First-shortest}
 use Rattle.labelling.proofs.Made.{step-ended}

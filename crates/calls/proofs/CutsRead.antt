@@ -35,6 +35,13 @@ setOf-same M d i t u h =
     code-same (count (M .floor) d i) (λ p. t (laneAt (M .floor) d i p)) (λ p. u (laneAt (M .floor) d i p))
     (λ p l. h (laneAt (M .floor) d i p) (laneAt-below (M .floor) d i p l))
 
+-- what a cut counts where its lanes leave station i, and where they enter it
+abbrev out : Meaning → (ℕ → Bool) → (ℕ → Bool) → ℕ → ℕ
+out M n u i = cond (n i) (M .cap false i (setOf M false i (λ e. crosses M n e && u e))) 0
+
+abbrev into : Meaning → (ℕ → Bool) → (ℕ → Bool) → ℕ → ℕ
+into M n u i = cond (n i) 0 (M .cap true i (setOf M true i (λ e. crosses M n e && not (u e))))
+
 module _ (M : Meaning) (laws : Lawful M) (n n′ u u′ : ℕ → Bool) (same : (i : ℕ) → i < M .floor .stations → n i ≡ n′ i) where
   pub crosses-same : (e : ℕ) → e < M .floor .lanes → crosses M n e ≡ crosses M n′ e
   crosses-same e l =
@@ -52,10 +59,10 @@ module _ (M : Meaning) (laws : Lawful M) (n n′ u u′ : ℕ → Bool) (same : 
     unfolding capacity
     capacity-same =
         ap₂ (λ a b. a + b)
-        (sum-same (λ i. cond (n i) (M .cap false i (setOf M false i (λ e. crosses M n e && u e))) 0) (λ i. cond (n′ i) (M .cap false i (setOf M false i (λ e. crosses M n′ e && u′ e))) 0) (M .floor .stations)
+        (sum-same (out M n u) (out M n′ u′) (M .floor .stations)
         (λ i l. ap₂ (λ b X. cond b (M .cap false i X) 0) (same i l)
         (setOf-same M false i (λ e. crosses M n e && u e) (λ e. crosses M n′ e && u′ e) (both-same (λ b. b)))))
-        (sum-same (λ i. cond (n i) 0 (M .cap true i (setOf M true i (λ e. crosses M n e && not (u e))))) (λ i. cond (n′ i) 0 (M .cap true i (setOf M true i (λ e. crosses M n′ e && not (u′ e))))) (M .floor .stations)
+        (sum-same (into M n u) (into M n′ u′) (M .floor .stations)
         (λ i l. ap₂ (λ b X. cond b 0 (M .cap true i X)) (same i l)
         (setOf-same M true i (λ e. crosses M n e && not (u e)) (λ e. crosses M n′ e && not (u′ e)) (both-same not))))
 

@@ -33,11 +33,9 @@ impl Unfit {
 // A plan that is opened keeps the promise of no call.
 pub fn openings_keep_the_promise()
     ensures { λ _. ⌜ Openings-keep-the-promise ⌝ }
-{
-}
+{}
 
 // Whatever call a plan meets that has kept the promise so far, it keeps the promise with that call too.
 pub fn calls_keep_the_promise()
     ensures { λ _. ⌜ Calls-keep-the-promise ⌝ }
-{
-}
+{}

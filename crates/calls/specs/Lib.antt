@@ -1,0 +1,5 @@
+pub mod Refusals
+pub mod Events
+pub mod Law
+pub mod Does
+pub mod Kept

@@ -1,2 +1,3 @@
 pub mod ByRooms
 pub mod Rows
+pub mod SideRooms

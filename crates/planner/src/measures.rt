@@ -9,8 +9,9 @@ ghost use Rattle.network.specs.Plans.{trays as trays-on};
 ghost use Rattle.rooms.specs.Rooms.{at};
 ghost use Rattle.tables.specs.Tables.{meaning-in};
 ghost use Rattle.planner.specs.ByRooms.{room-zeroing};
-ghost use Rattle.planner.specs.Measures.{Row};
+ghost use Rattle.planner.specs.Measures.{Row, position-room};
 use plant::MOST_ON_SIDE;
+use rooms::fill_rooms;
 use rooms::fill_sums;
 use rooms::room_without;
 use tables::TableSide;
@@ -58,4 +59,39 @@ fn position_of(tables: &Tables, lane: usize, entering: bool) -> usize
 {
     let row = tables.lanes[lane];
     if entering { row.in_position } else { row.out_position }
+}
+
+// The room of a lane at one of its ends, with the trays of another lane at the same side put to 0.
+pub fn room_zeroing(tables: &Tables, trays: &[u32], entering: bool, lane: usize, other: usize) -> u32
+    requires trays { ⌜ length (now trays) ≡ vec-len (now tables .lanes) ⌝ }
+    requires lane { ⌜ lane < vec-len (now tables .lanes) ⌝ }
+    requires other { ⌜ other < vec-len (now tables .lanes) ⌝ }
+    requires beside { ⌜ meaning-in (now tables) .floor .end entering other ≡ meaning-in (now tables) .floor .end entering lane ⌝ }
+    ensures { λ r. ⌜ r ≡ room-zeroing (meaning-in (now (tables .entry))) (at (now (trays .entry))) entering lane other ⌝ }
+{
+    let side = side_of(tables, lane, entering);
+    let caps = tables.caps_of(side);
+    let places = trays_on_side(tables, trays, side);
+    let on = &places[..side_row(tables, side).width];
+    let mut sets = [0; MOST_SETS];
+    let sums = &mut sets[..caps.len()];
+    fill_sums(on, sums);
+    room_without(caps, sums, on, position_of(tables, lane, entering), position_of(tables, other, entering))
+}
+
+// The room of each position of a side.
+fn rooms_on_side(tables: &Tables, trays: &[u32], side: usize) -> [u32; MOST_ON_SIDE]
+    requires side { ⌜ side < 2 * now tables .stations ⌝ }
+    requires trays { ⌜ length (now trays) ≡ vec-len (now tables .lanes) ⌝ }
+    ensures { λ r. ⌜ ((p : ℕ) → p < width (meaning-in (now (tables .entry)) .floor) side → getD r p 0 ≡ position-room (meaning-in (now (tables .entry))) (at (now (trays .entry))) (end-of side) (station-of side) p) ⌝ }
+{
+    let caps = tables.caps_of(side);
+    let places = trays_on_side(tables, trays, side);
+    let on = &places[..side_row(tables, side).width];
+    let mut sets = [0; MOST_SETS];
+    let sums = &mut sets[..caps.len()];
+    fill_sums(on, sums);
+    let mut rooms = [0; MOST_ON_SIDE];
+    fill_rooms(caps, sums, on, &mut rooms[..on.len()]);
+    rooms
 }

@@ -1,3 +1,4 @@
 pub mod ByRooms
 pub mod Rows
 pub mod SideRooms
+pub mod Putting

@@ -1,8 +1,9 @@
 -- What is measured of the trays on a floor.
 use mathlib.Core.Path.{_≡_}
 use mathlib.Core.Bool.{Bool}
+use mathlib.Core.List.{List}
 use Prim.Native.Nat.{ℕ, _≤_, _<_}
-use lib.ListN.{getD}
+use lib.ListN.{length, getD}
 use Rattle.std.specs.Of.Vec.{vec-len}
 use Rattle.floor.specs.Numbers.{most-on-side}
 use Rattle.polymatroid.specs.Side.{room}
@@ -23,3 +24,9 @@ pub record Row (t : Tables) (s : ℕ) (row : TableSide) : Type 0 where
   pub few : row .width ≤ most-on-side
   pub each : (p : ℕ) → p < row .width → getD (row .numbers) p 0 ≡ laneAt (meaning-in t .floor) (end-of s) (station-of s) p
   pub below : (p : ℕ) → p < row .width → getD (row .numbers) p 0 < vec-len (t .lanes)
+
+-- the first n of the numbers xs are put at the places that ps has for them, and all else is as it was before
+pub record Put (ps xs before after : List ℕ) (n : ℕ) : Type 0 where
+  pub all : length after ≡ length before
+  pub put : (p : ℕ) → p < n → getD after (getD ps p 0) 0 ≡ getD xs p 0
+  pub kept : (e : ℕ) → ((p : ℕ) → p < n → getD ps p 0 ≡ e → ⊥) → getD after e 0 ≡ getD before e 0

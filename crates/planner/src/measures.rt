@@ -1,15 +1,16 @@
 // What is measured of the trays on a floor: how much room each lane has at its two sides, and how much it would have if another
 // lane carried no trays. Each question goes once over the sets of one side.
 ghost use mathlib.Core.Path.{_≡_};
-ghost use Prim.Native.Nat.{ℕ, _*_, _<_};
+ghost use Prim.Native.Nat.{ℕ, _*_, _≤_, _<_};
 ghost use lib.ListN.{length, getD};
 ghost use Rattle.std.specs.Of.Vec.{vec-len};
+ghost use Rattle.floor.specs.Numbers.{most-on-side};
 ghost use Rattle.floor.specs.Floor.{side, width, end-of, station-of, place};
 ghost use Rattle.network.specs.Plans.{trays as trays-on};
 ghost use Rattle.rooms.specs.Rooms.{at};
 ghost use Rattle.tables.specs.Tables.{meaning-in};
 ghost use Rattle.planner.specs.ByRooms.{room-zeroing};
-ghost use Rattle.planner.specs.Measures.{Row, position-room};
+ghost use Rattle.planner.specs.Measures.{Row, Put, position-room};
 use plant::MOST_ON_SIDE;
 use rooms::fill_rooms;
 use rooms::fill_sums;
@@ -94,4 +95,16 @@ fn rooms_on_side(tables: &Tables, trays: &[u32], side: usize) -> [u32; MOST_ON_S
     let mut rooms = [0; MOST_ON_SIDE];
     fill_rooms(caps, sums, on, &mut rooms[..on.len()]);
     rooms
+}
+
+// Puts what is at the positions of a side at the numbers of its lanes.
+fn put_by_lane(row: &TableSide, on: &[u32; MOST_ON_SIDE], lanes: &mut [u32])
+    requires few { ⌜ now row .width ≤ most-on-side ⌝ }
+    requires there { ⌜ ((p : ℕ) → p < now row .width → getD (now row .numbers) p 0 < length (now lanes)) ⌝ }
+    requires apart { ⌜ ((p q : ℕ) → p < now row .width → q < now row .width → getD (now row .numbers) p 0 ≡ getD (now row .numbers) q 0 → p ≡ q) ⌝ }
+    ensures { λ _. ⌜ Put (now (row .entry) .numbers) (now (on .entry)) (now (lanes .entry)) (now (lanes .exit)) (now (row .entry) .width) ⌝ }
+{
+    for position in 0..row.width {
+        lanes[row.numbers[position]] = on[position];
+    }
 }

@@ -13,6 +13,7 @@ use Rattle.network.specs.Plans.{trays}
 use Rattle.tables.specs.Tables.{meaning-in}
 use Rattle.tables.specs.declared.tables.Tables.{Tables}
 use Rattle.tables.specs.declared.tables.TableSide.{TableSide}
+use Rattle.planner.specs.ByRooms.{room-at}
 
 -- the room of position p at a station's end d
 abbrev pub position-room : Meaning → (ℕ → ℕ) → Bool → ℕ → ℕ → ℕ
@@ -30,3 +31,7 @@ pub record Put (ps xs before after : List ℕ) (n : ℕ) : Type 0 where
   pub all : length after ≡ length before
   pub put : (p : ℕ) → p < n → getD after (getD ps p 0) 0 ≡ getD xs p 0
   pub kept : (e : ℕ) → ((p : ℕ) → p < n → getD ps p 0 ≡ e → ⊥) → getD after e 0 ≡ getD before e 0
+
+-- of the lanes whose end d is at a station below n, the rooms are measured
+abbrev pub Measured : Meaning → (ℕ → ℕ) → Bool → List ℕ → ℕ → Type 0
+Measured M f d rooms n = (e : ℕ) → e < M .floor .lanes → M .floor .end d e < n → getD rooms e 0 ≡ room-at M f d e

@@ -4,12 +4,12 @@ ghost use mathlib.Core.Path.{_≡_};
 ghost use Prim.Native.Nat.{ℕ, _*_, _≤_, _<_};
 ghost use lib.ListN.{length, getD};
 ghost use Rattle.std.specs.Of.Vec.{vec-len};
-ghost use Rattle.floor.specs.Numbers.{most-on-side};
+ghost use Rattle.floor.specs.Numbers.{most-stations, most-on-side};
 ghost use Rattle.floor.specs.Floor.{side, width, end-of, station-of, place};
 ghost use Rattle.network.specs.Plans.{trays as trays-on};
 ghost use Rattle.rooms.specs.Rooms.{at};
 ghost use Rattle.tables.specs.Tables.{meaning-in};
-ghost use Rattle.planner.specs.ByRooms.{room-zeroing};
+ghost use Rattle.planner.specs.ByRooms.{room-at, room-zeroing};
 ghost use Rattle.planner.specs.Measures.{Row, Put, position-room};
 use plant::MOST_ON_SIDE;
 use rooms::fill_rooms;
@@ -41,6 +41,14 @@ fn trays_on_side(tables: &Tables, trays: &[u32], side: usize) -> [u32; MOST_ON_S
         on[position] = trays[row.numbers[position]];
     }
     on
+}
+
+// The side of a station where lanes enter it, or where they leave it.
+fn side_at(station: usize, entering: bool) -> usize
+    requires { ⌜ station < most-stations ⌝ }
+    ensures { λ r. ⌜ r ≡ side entering station ⌝ }
+{
+    2 * station + usize::from(entering)
 }
 
 // The side of a lane where it enters a station, or where it leaves one.
@@ -106,5 +114,20 @@ fn put_by_lane(row: &TableSide, on: &[u32; MOST_ON_SIDE], lanes: &mut [u32])
 {
     for position in 0..row.width {
         lanes[row.numbers[position]] = on[position];
+    }
+}
+
+// The room of every lane at one of its ends, from one round over the sets of each side.
+pub fn measure(tables: &Tables, trays: &[u32], entering: bool, rooms: &mut [u32])
+    requires trays { ⌜ length (now trays) ≡ vec-len (now tables .lanes) ⌝ }
+    requires rooms { ⌜ length (now rooms) ≡ vec-len (now tables .lanes) ⌝ }
+    ensures all { λ _. ⌜ length (now (rooms .exit)) ≡ length (now (rooms .entry)) ⌝ }
+    ensures each { λ _. ⌜ ((e : ℕ) → e < vec-len (now (tables .entry) .lanes) → getD (now (rooms .exit)) e 0 ≡ room-at (meaning-in (now (tables .entry))) (at (now (trays .entry))) entering e) ⌝ }
+{
+    for station in 0..tables.stations {
+        let side = side_at(station, entering);
+        let row = side_row(tables, side);
+        let on = rooms_on_side(tables, trays, side);
+        put_by_lane(&row, &on, rooms);
     }
 }

@@ -5,7 +5,7 @@ use mathlib.Core.List.{List, [], _∷_, map}
 use Prim.Native.Nat.{ℕ, zero, suc, _+_, _<_}
 use native.Mathlib.Omega.{arith}
 use lib.ListN.{getD, set, length}
-use Rattle.std.proofs.shelf.Lists.{map-set, set-getD, getD-read-under}
+use Rattle.std.proofs.shelf.Lists.{map-set, set-getD, getD-read-under, length-map}
 use Rattle.std.proofs.shelf.Tests.{false≢true}
 use Rattle.std.specs.Options.{isSome}
 use Rattle.std.specs.declared.option.Option.{Option}
@@ -73,3 +73,7 @@ module _ (r : State → State → Bool) (x : State) (l : ℕ) (t : List (Option 
       let b : mark (marks t) y ≡ Blank = q ∙ blank o e in
       ap marks w ∙ map-set mark-of t y (Some k)
       ∙ ap (set (marks t) y) (n ∙ ap (λ o. gifted o x l) f ∙ sym (give-gifted r x l y) ∙ sym (ap (give r x l y) b))
+
+-- a table has as many marks as labels
+pub marks-length : (t : List (Option Label)) (n : ℕ) → n ≡ length t → length (marks t) ≡ n
+marks-length t n e = length-map t mark-of ∙ sym e

@@ -2,7 +2,7 @@
 use mathlib.Core.Bool.{Bool, true, false, cond}
 use mathlib.Core.List.{List, map}
 use Prim.Native.Nat.{ℕ, _<_}
-use lib.Dec.{ltb}
+use lib.Dec.{eqb, ltb}
 use Rattle.std.specs.declared.option.Option.{Option}
 use Rattle.std.specs.declared.option.Option.the-variants.{Some, None}
 use Rattle.network.specs.States.{State, Pole, Plus, Minus}
@@ -16,6 +16,11 @@ use Rattle.labels.specs.declared.Label.{Label}
 abbrev pub is-plus : Sign → Bool
 is-plus sign.Plus = true
 is-plus sign.Minus = false
+
+-- and back
+abbrev pub sign-of : Bool → Sign
+sign-of true = sign.Plus
+sign-of false = sign.Minus
 
 -- a signed lane as a state
 abbrev pub signed-state : SignedLane → State
@@ -43,6 +48,11 @@ mark-of (Some l) = Given (is-plus (l .sign)) (from-state (l .name)) (l .level)
 -- the marks of a table
 abbrev pub marks : List (Option Label) → List Mark
 marks t = map mark-of t
+
+-- the sign of a mark of level l
+abbrev pub sign-at : ℕ → Mark → Option Sign
+sign-at l Blank = None
+sign-at l (Given s x k) = cond (eqb k l) (Some (sign-of s)) None
 
 -- the lane that a search among m lanes came to, if it found one
 abbrev pub found : ℕ → ℕ → Option ℕ

@@ -3,15 +3,17 @@
 // so the table knows nothing of floors and trays. A level with a lane that ends a path ends the labelling, and the path is read
 // back along the names. The contracts say that all this is the labelling that the crate labelling defines.
 ghost use mathlib.Core.Path.{_≡_};
-ghost use mathlib.Core.Bool.{Bool, true};
-ghost use Prim.Native.Nat.{ℕ, _<_, _≤_};
+ghost use mathlib.Core.Bool.{Bool, true, _&&_};
+ghost use Prim.Native.Nat.{ℕ, _+_, _<_, _≤_};
+ghost use lib.Dec.{ltb};
 ghost use lib.ListN.{set, replicate};
 ghost use Rattle.std.specs.Of.Vec.{vec-items, vec-len};
 ghost use Rattle.std.specs.Vec.{made};
 ghost use Rattle.std.specs.declared.option.Option.the-variants.{Some, None};
 ghost use Rattle.network.specs.States.{State, Pole};
-ghost use Rattle.labelling.specs.Table.{mark, give, listed};
-ghost use Rattle.labels.specs.Labels.{Known, signed-state, from-state, gift, marks};
+ghost use Rattle.labelling.specs.Table.{mark, isAt, stateOf, give, listed, pass, endingLane, laneOfLevel, label as outcome-of};
+ghost use Rattle.labelling.specs.Sweep.{scan as lane-scanned};
+ghost use Rattle.labels.specs.Labels.{Known, signed-state, from-state, gift, marks, sign-at, found, came-out};
 use std::alloc::AllocError;
 use std::alloc::Global;
 
@@ -94,5 +96,119 @@ impl LabelTable {
         if let Some(sign) = scan.gives(from, to) {
             self.put(to, Label { sign, name: from, level });
         }
+    }
+
+    // What is scanned gives labels of a level to the lanes that have none.
+    fn scan_from<S: Scan>(&mut self, scan: &S, from: Option<SignedLane>, level: usize)
+        requires size { ⌜ vec-len (now self .labels) ≡ size (now scan) ⌝ }
+        requires from { ⌜ Known (size (now scan)) from ⌝ }
+        ensures marks { λ _. ⌜ marks (vec-items (now (self .exit) .labels)) ≡ listed (λ y. give (rule (now (scan .entry))) (from-state from) level y (mark (marks (vec-items (now (self .entry) .labels))) y)) (size (now (scan .entry))) 0 ⌝ }
+        ensures len { λ _. ⌜ vec-len (now (self .exit) .labels) ≡ vec-len (now (self .entry) .labels) ⌝ }
+    {
+        for lane in 0..self.labels.len() {
+            self.offer(scan, from, lane, level);
+        }
+    }
+
+    // The sign of a lane that is of the level.
+    fn sign_at(&self, lane: usize, level: usize) -> Option<Sign>
+        requires { ⌜ lane < vec-len (now self .labels) ⌝ }
+        ensures { λ r. ⌜ r ≡ sign-at level (mark (marks (vec-items (now (self .entry) .labels))) lane) ⌝ }
+    {
+        let Some(label) = self.labels[lane] else {
+            return None;
+        };
+        if label.level == level { Some(label.sign) } else { None }
+    }
+
+    // Scans a lane, if it is of the level.
+    fn scan_lane<S: Scan>(&mut self, scan: &S, lane: usize, level: usize)
+        requires size { ⌜ vec-len (now self .labels) ≡ size (now scan) ⌝ }
+        requires lane { ⌜ lane < size (now scan) ⌝ }
+        requires level { ⌜ level ≤ size (now scan) + 1 ⌝ }
+        ensures marks { λ _. ⌜ marks (vec-items (now (self .exit) .labels)) ≡ lane-scanned (rule (now (scan .entry))) (size (now (scan .entry))) level lane (marks (vec-items (now (self .entry) .labels))) ⌝ }
+        ensures len { λ _. ⌜ vec-len (now (self .exit) .labels) ≡ vec-len (now (self .entry) .labels) ⌝ }
+    {
+        if let Some(sign) = self.sign_at(lane, level) {
+            self.scan_from(scan, Some(SignedLane { lane, sign }), level + 1);
+        }
+    }
+
+    // Scans the lanes of a level in their order.
+    fn scan_level<S: Scan>(&mut self, scan: &S, level: usize)
+        requires size { ⌜ vec-len (now self .labels) ≡ size (now scan) ⌝ }
+        requires some { ⌜ 0 < level ⌝ }
+        requires level { ⌜ level ≤ size (now scan) + 1 ⌝ }
+        ensures marks { λ _. ⌜ marks (vec-items (now (self .exit) .labels)) ≡ pass (rule (now (scan .entry))) (size (now (scan .entry))) level (marks (vec-items (now (self .entry) .labels))) ⌝ }
+        ensures len { λ _. ⌜ vec-len (now (self .exit) .labels) ≡ vec-len (now (self .entry) .labels) ⌝ }
+    {
+        for lane in 0..self.labels.len() {
+            self.scan_lane(scan, lane, level);
+        }
+    }
+
+    // Whether a lane is of the level and ends a path.
+    fn ends_at<S: Scan>(&self, scan: &S, lane: usize, level: usize) -> bool
+        requires size { ⌜ vec-len (now self .labels) ≡ size (now scan) ⌝ }
+        requires lane { ⌜ lane < size (now scan) ⌝ }
+        ensures { λ r. ⌜ r ≡ (isAt level (mark (marks (vec-items (now (self .entry) .labels))) lane) && rule (now (scan .entry)) (stateOf lane (mark (marks (vec-items (now (self .entry) .labels))) lane)) (Pole true)) ⌝ }
+    {
+        let Some(sign) = self.sign_at(lane, level) else {
+            return false;
+        };
+        scan.ends(SignedLane { lane, sign })
+    }
+
+    // The lowest lane of the level that ends a path.
+    fn ending_lane<S: Scan>(&self, scan: &S, level: usize) -> Option<usize>
+        requires { ⌜ vec-len (now self .labels) ≡ size (now scan) ⌝ }
+        ensures { λ r. ⌜ r ≡ found (size (now (scan .entry))) (endingLane (rule (now (scan .entry))) (size (now (scan .entry))) level (marks (vec-items (now (self .entry) .labels)))) ⌝ }
+    {
+        for lane in 0..self.labels.len() {
+            if self.ends_at(scan, lane, level) {
+                return Some(lane);
+            }
+        }
+        None
+    }
+
+    // Whether a lane is of the level.
+    fn has_level(&self, level: usize) -> bool
+        ensures { λ r. ⌜ r ≡ ltb (laneOfLevel (vec-len (now (self .entry) .labels)) level (marks (vec-items (now (self .entry) .labels)))) (vec-len (now (self .entry) .labels)) ⌝ }
+    {
+        for lane in 0..self.labels.len() {
+            if self.sign_at(lane, level).is_some() {
+                return true;
+            }
+        }
+        false
+    }
+
+    // Takes all labels away.
+    fn clear(&mut self)
+        ensures items { λ _. ⌜ vec-items (now (self .exit) .labels) ≡ replicate (vec-len (now (self .entry) .labels)) None ⌝ }
+        ensures len { λ _. ⌜ vec-len (now (self .exit) .labels) ≡ vec-len (now (self .entry) .labels) ⌝ }
+    {
+        self.labels.fill(None);
+    }
+
+    // Labels the lanes level by level. Where a path ends, its level and its last lane.
+    pub fn label<S: Scan>(&mut self, scan: &S) -> Option<(usize, usize)>
+        requires { ⌜ vec-len (now self .labels) ≡ size (now scan) ⌝ }
+        ensures outcome { λ r. ⌜ outcome-of (rule (now (scan .entry))) (size (now (scan .entry))) ≡ came-out r (marks (vec-items (now (self .exit) .labels))) ⌝ }
+        ensures len { λ _. ⌜ vec-len (now (self .exit) .labels) ≡ vec-len (now (self .entry) .labels) ⌝ }
+    {
+        self.clear();
+        self.scan_from(scan, None, 1);
+        for level in 1..self.labels.len() + 2 {
+            if let Some(lane) = self.ending_lane(scan, level) {
+                return Some((level, lane));
+            }
+            if !self.has_level(level) {
+                return None;
+            }
+            self.scan_level(scan, level);
+        }
+        None
     }
 }

@@ -38,6 +38,10 @@ found-none m e q = by (ltb e m) q
     by true q = let z : _≡_ {A = ℕ} 0 1 = cc in absurd (omega arith)
     by false q = refl
 
+-- the test for a lane of a level, at the number of lanes
+pub level-test : (n m l : ℕ) (t : List Mark) (b : Bool) → n ≡ m → b ≡ ltb (laneOfLevel n l t) n → b ≡ ltb (laneOfLevel m l t) m
+level-test n m l t b e q = q ∙ ap (λ n. ltb (laneOfLevel n l t) n) e
+
 module _ (r : State → State → Bool) (m : ℕ) where
   -- the first level, from a table without labels
   pub label-start : (n : ℕ) (u : List Mark) → n ≡ suc m → u ≡ listed (λ y. give r (Pole false) 1 y (mark (marks (replicate m None)) y)) m 0 → label r m ≡ labelFrom r m n 1 u

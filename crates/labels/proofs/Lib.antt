@@ -4,3 +4,4 @@ pub mod Signs
 pub mod Sweeps
 pub mod Searches
 pub mod Levels
+pub mod Trails

@@ -4,16 +4,18 @@
 // back along the names. The contracts say that all this is the labelling that the crate labelling defines.
 ghost use mathlib.Core.Path.{_≡_};
 ghost use mathlib.Core.Bool.{Bool, true, _&&_};
+ghost use mathlib.Core.List.{_++_, map};
 ghost use Prim.Native.Nat.{ℕ, _+_, _<_, _≤_};
 ghost use lib.Dec.{ltb};
 ghost use lib.ListN.{set, replicate};
-ghost use Rattle.std.specs.Of.Vec.{vec-items, vec-len};
+ghost use Rattle.std.specs.Of.Vec.{vec-items, vec-len, vec-cap};
 ghost use Rattle.std.specs.Vec.{made};
 ghost use Rattle.std.specs.declared.option.Option.the-variants.{Some, None};
 ghost use Rattle.network.specs.States.{State, Pole};
-ghost use Rattle.labelling.specs.Table.{mark, isAt, stateOf, give, listed, pass, endingLane, laneOfLevel, label as outcome-of};
+ghost use Rattle.labelling.specs.Table.{mark, nameOf, isAt, stateOf, give, listed, pass, endingLane, laneOfLevel, label as outcome-of};
 ghost use Rattle.labelling.specs.Sweep.{scan as lane-scanned};
 ghost use Rattle.labels.specs.Labels.{Known, signed-state, from-state, gift, marks, sign-at, found, came-out};
+ghost use Rattle.labels.specs.Paths.{level-of, Falls, trail};
 use std::alloc::AllocError;
 use std::alloc::Global;
 
@@ -210,5 +212,34 @@ impl LabelTable {
             self.scan_level(scan, level);
         }
         None
+    }
+
+    // The signed lane that was scanned when a lane was given its label.
+    fn name(&self, lane: usize) -> Option<SignedLane>
+        requires { ⌜ lane < vec-len (now self .labels) ⌝ }
+        ensures { λ r. ⌜ from-state r ≡ nameOf (mark (marks (vec-items (now (self .entry) .labels))) lane) ⌝ }
+    {
+        let Some(label) = self.labels[lane] else {
+            return None;
+        };
+        label.name
+    }
+
+    // Adds a lane and those before it, back to the stock.
+    fn walk_back(&self, last: SignedLane, path: &mut Vec<SignedLane>)
+        requires falls { ⌜ Falls (marks (vec-items (now self .labels))) ⌝ }
+        requires labelled { ⌜ 0 < level-of (mark (marks (vec-items (now self .labels))) (last .lane)) ⌝ }
+        requires room { ⌜ vec-len (now path) + level-of (mark (marks (vec-items (now self .labels))) (last .lane)) ≤ vec-cap (now path) ⌝ }
+        ensures states { λ _. ⌜ map signed-state (vec-items (now (path .exit))) ≡ map signed-state (vec-items (now (path .entry))) ++ trail (level-of (mark (marks (vec-items (now (self .entry) .labels))) (last .lane))) (marks (vec-items (now (self .entry) .labels))) (signed-state last) ⌝ }
+        ensures capacity { λ _. ⌜ vec-cap (now (path .exit)) ≡ vec-cap (now (path .entry)) ⌝ }
+    {
+        let mut at = last;
+        loop {
+            path.push_reserved(at);
+            let Some(before) = self.name(at.lane) else {
+                return;
+            };
+            at = before;
+        }
     }
 }

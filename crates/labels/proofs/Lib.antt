@@ -5,3 +5,5 @@ pub mod Sweeps
 pub mod Searches
 pub mod Levels
 pub mod Trails
+pub mod Rows
+pub mod Depths

@@ -2,7 +2,7 @@
 use mathlib.Core.Path.{_≡_}
 use mathlib.Core.Bool.{true, false}
 use mathlib.Core.List.{List, [], _∷_}
-use Prim.Native.Nat.{ℕ, zero, suc, _-_, _<_}
+use Prim.Native.Nat.{ℕ, zero, suc, _-_, _≤_, _<_}
 use Rattle.std.specs.declared.option.Option.{Option}
 use Rattle.std.specs.declared.option.Option.the-variants.{Some, None}
 use Rattle.network.specs.States.{State, Pole, Plus, Minus, lane-number}
@@ -28,3 +28,8 @@ Falls t = (y : ℕ) → 0 < level-of (mark t y) → Lies t (level-of (mark t y) 
 abbrev pub trail : ℕ → List Mark → State → List State
 trail zero t x = []
 trail (suc n) t x = x ∷ trail n t (nameOf (mark t (lane-number x)))
+
+-- how a labelling of m lanes ends that ends with a path: the last lane has a label of the level, and there are no more levels than lanes
+abbrev pub Ended-at : ℕ → Option (ℕ × ℕ) → List Mark → Type 0
+Ended-at m None t = Unit {0}
+Ended-at m (Some p) t = (level-of (mark t (p .1)) ≡ p .0) × (0 < p .0) × (p .0 ≤ m) × (p .1 < m)

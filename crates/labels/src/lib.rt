@@ -12,10 +12,11 @@ ghost use Rattle.std.specs.Of.Vec.{vec-items, vec-len, vec-cap};
 ghost use Rattle.std.specs.Vec.{made};
 ghost use Rattle.std.specs.declared.option.Option.the-variants.{Some, None};
 ghost use Rattle.network.specs.States.{State, Pole};
-ghost use Rattle.labelling.specs.Table.{mark, nameOf, isAt, stateOf, give, listed, pass, endingLane, laneOfLevel, label as outcome-of};
+ghost use Rattle.labelling.specs.Table.{mark, nameOf, isAt, stateOf, give, listed, pass, endingLane, laneOfLevel, label as outcome-of, path as path-to};
 ghost use Rattle.labelling.specs.Sweep.{scan as lane-scanned};
+ghost use Rattle.labelling.specs.Steps.{row};
 ghost use Rattle.labels.specs.Labels.{Known, signed-state, from-state, gift, marks, sign-at, found, came-out};
-ghost use Rattle.labels.specs.Paths.{level-of, Falls, trail};
+ghost use Rattle.labels.specs.Paths.{level-of, Falls, Ended-at, trail};
 use std::alloc::AllocError;
 use std::alloc::Global;
 
@@ -198,6 +199,8 @@ impl LabelTable {
     pub fn label<S: Scan>(&mut self, scan: &S) -> Option<(usize, usize)>
         requires { ⌜ vec-len (now self .labels) ≡ size (now scan) ⌝ }
         ensures outcome { λ r. ⌜ outcome-of (rule (now (scan .entry))) (size (now (scan .entry))) ≡ came-out r (marks (vec-items (now (self .exit) .labels))) ⌝ }
+        ensures falls { λ _. ⌜ Falls (marks (vec-items (now (self .exit) .labels))) ⌝ }
+        ensures last { λ r. ⌜ Ended-at (size (now (scan .entry))) r (marks (vec-items (now (self .exit) .labels))) ⌝ }
         ensures len { λ _. ⌜ vec-len (now (self .exit) .labels) ≡ vec-len (now (self .entry) .labels) ⌝ }
     {
         self.clear();
@@ -241,5 +244,21 @@ impl LabelTable {
             };
             at = before;
         }
+    }
+
+    // The path that ends with a lane, from the stock on. It has as many lanes as the level of the lane's label.
+    pub fn read_back(&self, last: usize, path: &mut Vec<SignedLane>)
+        requires falls { ⌜ Falls (marks (vec-items (now self .labels))) ⌝ }
+        requires labelled { ⌜ 0 < level-of (mark (marks (vec-items (now self .labels))) last) ⌝ }
+        requires room { ⌜ level-of (mark (marks (vec-items (now self .labels))) last) ≤ vec-cap (now path) ⌝ }
+        ensures states { λ _. ⌜ map signed-state (vec-items (now (path .exit))) ≡ row (path-to (level-of (mark (marks (vec-items (now (self .entry) .labels))) last)) last (marks (vec-items (now (self .entry) .labels)))) (level-of (mark (marks (vec-items (now (self .entry) .labels))) last)) ⌝ }
+        ensures capacity { λ _. ⌜ vec-cap (now (path .exit)) ≡ vec-cap (now (path .entry)) ⌝ }
+    {
+        path.clear();
+        let Some(label) = self.labels[last] else {
+            return;
+        };
+        self.walk_back(SignedLane { lane: last, sign: label.sign }, path);
+        path.reverse();
     }
 }

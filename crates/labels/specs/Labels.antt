@@ -5,12 +5,14 @@ use Prim.Native.Nat.{ℕ, _<_}
 use lib.Dec.{eqb, ltb}
 use Rattle.std.specs.declared.option.Option.{Option}
 use Rattle.std.specs.declared.option.Option.the-variants.{Some, None}
+use Rattle.std.specs.Of.Vec.{vec-items, vec-len}
 use Rattle.network.specs.States.{State, Pole, Plus, Minus}
 use Rattle.labelling.specs.Table.{Mark, Blank, Given, signed, Outcome, Ended, Finished}
 use Rattle.labels.specs.declared.Sign.{Sign}
 use Rattle.labels.specs.declared.Sign.the-variants as sign
 use Rattle.labels.specs.declared.SignedLane.{SignedLane}
 use Rattle.labels.specs.declared.Label.{Label}
+use Rattle.labels.specs.declared.LabelTable.{LabelTable}
 
 -- + is true
 abbrev pub is-plus : Sign → Bool
@@ -48,6 +50,13 @@ mark-of (Some l) = Given (is-plus (l .sign)) (from-state (l .name)) (l .level)
 -- the marks of a table
 abbrev pub marks : List (Option Label) → List Mark
 marks t = map mark-of t
+
+-- the marks and the number of lanes of a program's table
+abbrev pub marks-in : LabelTable → List Mark
+marks-in t = marks (vec-items (t .labels))
+
+abbrev pub lanes-in : LabelTable → ℕ
+lanes-in t = vec-len (t .labels)
 
 -- the sign of a mark of level l
 abbrev pub sign-at : ℕ → Mark → Option Sign

@@ -19,9 +19,11 @@ pub loop-level-holds : need.loop-level-holds
 loop-level-holds g c =
     let r = g .S·Scan .rule (c .args .scan .now) in
     let m = g .S·Scan .size (c .args .scan .now) in
-    let e : vec-len (c .args .self .now .labels) ≡ m = c .pre in
-    (label-start r m (m + 2 - 1) (marks (vec-items (c .scan-from .last .self .labels))) (omega arith)
-    (c .scan-from .ensures .marks ∙ ap (λ t. listed (λ y. give r (Pole false) 1 y (mark (marks t) y)) m 0) (c .clear .ensures .items ∙ ap (λ n. replicate n None) e)), refl)
+    let e : vec-len (c .args .self .now .labels) ≡ m = c .pre in (
+      label-start r m (m + 2 - 1) (marks (vec-items (c .scan-from .last .self .labels))) (omega arith)
+          (c .scan-from .ensures .marks ∙ ap (λ t. listed (λ y. give r (Pole false) 1 y (mark (marks t) y)) m 0) (c .clear .ensures .items ∙ ap (λ n. replicate n None) e)),
+      refl,
+    )
 
 pub returns-in-Some : need.returns-in-Some
 returns-in-Some g c =
@@ -30,7 +32,7 @@ returns-in-Some g c =
     let l = c .loop-level .level in
     let u = vec-items (c .loop-level .self .labels) in
     let e : label r m ≡ Ended l (c .in-Some .lane) (marks u) =
-        c .loop-level .inv .0 ∙ label-ended r m l (m + 2 - l) (m + 2 - (l + 1)) (marks u) (omega arith) (c .in-Some .lane) (c .in-Some .ensures tt) in
+    c .loop-level .inv .0 ∙ label-ended r m l (m + 2 - l) (m + 2 - (l + 1)) (marks u) (omega arith) (c .in-Some .lane) (c .in-Some .ensures tt) in
     let o : Option (ℕ × ℕ) = Some (l, c .in-Some .lane) in
     record { outcome = e; falls = label-falls r m o (marks u) e; last = label-ended-at r m o (marks u) (marks-length u m (omega arith)) e; len = omega arith }
 
@@ -41,8 +43,8 @@ returns-then-not-has-level g c =
     let l = c .loop-level .level in
     let t = marks (vec-items (c .loop-level .self .labels)) in
     let e : label r m ≡ Finished t =
-        c .loop-level .inv .0 ∙ label-finished r m l (m + 2 - l) (m + 2 - (l + 1)) t (omega arith) (c .in-rest .ensures tt)
-        (level-test (vec-len (c .loop-level .self .labels)) m l t _ (omega arith) (sym (c .if-not-has-level .taken) ∙ c .has-level .ensures)) in
+    c .loop-level .inv .0 ∙ label-finished r m l (m + 2 - l) (m + 2 - (l + 1)) t (omega arith) (c .in-rest .ensures tt)
+    (level-test (vec-len (c .loop-level .self .labels)) m l t _ (omega arith) (sym (c .if-not-has-level .taken) ∙ c .has-level .ensures)) in
     record { outcome = e; falls = label-falls r m None t e; last = tt; len = omega arith }
 
 pub loop-level-again : need.loop-level-again
@@ -52,7 +54,7 @@ loop-level-again g c =
     let l = c .loop-level .level in
     let t = marks (vec-items (c .loop-level .self .labels)) in (
       c .loop-level .inv .0 ∙ label-more r m l (m + 2 - l) (m + 2 - (l + 1)) t (omega arith) _ (c .in-rest .ensures tt)
-      (level-test (vec-len (c .loop-level .self .labels)) m l t _ (omega arith) (sym (c .if-not-has-level .left) ∙ c .has-level .ensures)) (c .scan-level .ensures .marks),
+          (level-test (vec-len (c .loop-level .self .labels)) m l t _ (omega arith) (sym (c .if-not-has-level .left) ∙ c .has-level .ensures)) (c .scan-level .ensures .marks),
       omega arith,
     )
 

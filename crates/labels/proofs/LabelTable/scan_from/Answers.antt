@@ -13,7 +13,7 @@ loop-lane-again g c =
     let u = vec-items (c .loop-lane .self .labels) in
     let n = marks-length u (vec-len (c .loop-lane .self .labels)) (omega arith) in (
       part-more (give (g .S·Scan .rule (c .args .scan .now)) (from-state (c .args .from)) (c .args .level)) (marks (vec-items (c .args .self .now .labels))) (marks u) _ (c .loop-lane .lane) (omega (arith, n))
-      (c .offer .ensures .marks) (c .loop-lane .inv .0),
+          (c .offer .ensures .marks) (c .loop-lane .inv .0),
       omega arith,
     )
 

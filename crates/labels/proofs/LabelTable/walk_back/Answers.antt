@@ -37,9 +37,9 @@ loop-before-again c =
     let n = number-signed (is-plus (x .sign)) (x .lane) in
     let down = trail-down t (c .pre .falls) (signed-state x) (x .lane) n (c .loop-before .inv .1) (is-plus (z .sign)) (z .lane) (c .in-Some .ensures tt) in (
       ap (λ l. l ++ trail (level-of (mark t (z .lane))) t (signed-state z)) (ap (map signed-state) (c .push-reserved .ensures .items) ∙ map-push signed-state (vec-items (c .loop-before .path)) x)
-      ∙ append-assoc p _ _
-      ∙ ap (λ l. p ++ l) (sym (trail-more t (c .pre .falls) (signed-state x) (x .lane) n (c .loop-before .inv .1) (is-plus (z .sign)) (z .lane) (c .in-Some .ensures tt)))
-      ∙ c .loop-before .inv .0,
+          ∙ append-assoc p _ _
+          ∙ ap (λ l. p ++ l) (sym (trail-more t (c .pre .falls) (signed-state x) (x .lane) n (c .loop-before .inv .1) (is-plus (z .sign)) (z .lane) (c .in-Some .ensures tt)))
+          ∙ c .loop-before .inv .0,
       down .0,
       omega (arith, down .1),
       omega arith,

@@ -234,4 +234,5 @@ module _ (M : Meaning) (f : ℕ → ℕ) where
 pub any-order : Any-order
 unfolding outcome
 any-order M f cs laws hp hm ho =
-    label-same (ruledBy M f cs) (ruled M f) (M .floor .lanes) (plus-same M f laws cs hp hm ho) (minus-same M f laws cs hp hm ho) (end-same M f laws cs hp hm ho)
+    label-same (ruledBy M f cs) (ruled M f) (M .floor .lanes) (λ x y a. plus-same M f laws cs hp hm ho x y) (λ x y a. minus-same M f laws cs hp hm ho x y)
+    (λ x a. end-same M f laws cs hp hm ho x)

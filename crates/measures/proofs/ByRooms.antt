@@ -16,8 +16,10 @@ use Rattle.network.specs.Plans.{trays, Fits}
 use Rattle.network.specs.States.{State, Pole, Plus, Minus, On-floor, laneRoom, laneRoomBut}
 use Rattle.network.proofs.Rooms.{there, apart, all-is, less-is}
 use Rattle.labelling.specs.Rules.{full, inTight, ruled}
+use Rattle.labelling.specs.Steps.{outcome}
 use Rattle.labelling.specs.Amount.{roomBeside}
-use Rattle.measures.specs.ByRooms.{room-at, room-zeroing, is-full, waits-for, ruled-by-rooms, Rooms-rule, beside, Another, Rooms-beside}
+use Rattle.labelling.proofs.Same.{Among, label-same}
+use Rattle.measures.specs.ByRooms.{room-at, room-zeroing, is-full, waits-for, ruled-by-rooms, Rooms-rule, Rooms-label, beside, Another, Rooms-beside}
 
 module _ (M : Meaning) (f : ℕ → ℕ) where
   full-is : (d : Bool) (e : ℕ) → is-full M f d e ≡ full M f d e
@@ -111,3 +113,15 @@ pub rooms-beside : Rooms-beside
 rooms-beside M f laws fits d e (Pole b) oe ox ne = room-is M f laws fits d e oe
 rooms-beside M f laws fits d e (Plus g) oe ox ne = beside-lane M f laws fits d e g oe ox ne
 rooms-beside M f laws fits d e (Minus g) oe ox ne = beside-lane M f laws fits d e g oe ox ne
+
+-- what is scanned is on the floor
+on-floor : (M : Meaning) (x : State) → Among (M .floor .lanes) x → On-floor M x
+on-floor M (Pole b) a = tt
+on-floor M (Plus e) a = a
+on-floor M (Minus e) a = a
+
+pub rooms-label : Rooms-label
+unfolding outcome
+rooms-label M f laws fits =
+    label-same (ruled-by-rooms M f) (ruled M f) (M .floor .lanes) (λ x y a l. rooms-rule M f laws fits x (Plus y) (on-floor M x a) l)
+    (λ x y a l. rooms-rule M f laws fits x (Minus y) (on-floor M x a) l) (λ x a. rooms-rule M f laws fits x (Pole true) (on-floor M x a) tt)

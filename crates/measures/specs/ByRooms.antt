@@ -15,6 +15,8 @@ use Rattle.network.specs.Plans.{trays, Fits}
 use Rattle.network.specs.States.{State, Pole, Plus, Minus, On-floor}
 use Rattle.labelling.specs.Augmenting.{along}
 use Rattle.labelling.specs.Rules.{ruled}
+use Rattle.labelling.specs.Table.{label}
+use Rattle.labelling.specs.Steps.{outcome}
 use Rattle.labelling.specs.Amount.{roomBeside}
 
 -- the room of lane e at its end d
@@ -60,6 +62,10 @@ ruled-by-rooms M f (Minus e) (Pole c) = false
 abbrev pub Rooms-rule : Type 0
 Rooms-rule =
     (M : Meaning) (f : ℕ → ℕ) → Lawful M → Fits M f → (x y : State) → On-floor M x → On-floor M y → ruled-by-rooms M f x y ≡ ruled M f x y
+
+-- so they lead to the labelling of a step
+abbrev pub Rooms-label : Type 0
+Rooms-label = (M : Meaning) (f : ℕ → ℕ) → Lawful M → Fits M f → label (ruled-by-rooms M f) (M .floor .lanes) ≡ outcome M f
 
 -- the room of lane e at its end d beside a neighbour in the path
 abbrev pub beside : Meaning → (ℕ → ℕ) → Bool → ℕ → State → ℕ

@@ -1,5 +1,5 @@
 // How a step is worked out from rooms.
-ghost use Rattle.measures.specs.ByRooms.{Rooms-rule, Rooms-beside};
+ghost use Rattle.measures.specs.ByRooms.{Rooms-rule, Rooms-label, Rooms-beside};
 
 mod lanes;
 
@@ -12,7 +12,12 @@ pub fn rooms_rule()
     ensures { λ _. ⌜ Rooms-rule ⌝ }
 {}
 
-// So does what a + lane of a path lets through.
+// So does the labelling of a step.
+pub fn rooms_label()
+    ensures { λ _. ⌜ Rooms-label ⌝ }
+{}
+
+// And what a + lane of a path lets through.
 pub fn rooms_beside()
     ensures { λ _. ⌜ Rooms-beside ⌝ }
 {}

@@ -3,7 +3,6 @@ use mathlib.Core.Path.{_≡_, sym, ap, ap₂, subst, _∙_}
 use mathlib.Core.Bool.{cond}
 use mathlib.Core.List.{List}
 use Prim.Native.Nat.{ℕ, _^_, _<_}
-use native.Mathlib.Omega.{arith}
 use lib.Dec.{leb}
 use lib.ListN.{length, getD}
 use Rattle.polymatroid.specs.Sets.{has}
@@ -17,6 +16,7 @@ use Rattle.calls.specs.Does.{side-within}
 use Rattle.rooms.specs.Rooms.{at, Sums}
 use Rattle.loads.proofs.Every.{every-same}
 
+-- what is asked of the lists is what is asked of the side
 pub within-is : (M : Meaning) (f : ℕ → ℕ) (s : ℕ) (caps on sums : List ℕ) → length caps ≡ 2 ^ width (M .floor) s
     → ((X : ℕ) → X < 2 ^ width (M .floor) s → getD caps X 0 ≡ M .cap (end-of s) (station-of s) X) → length on ≡ width (M .floor) s
     → ((p : ℕ) → p < width (M .floor) s → getD on p 0 ≡ trays M f (end-of s) (station-of s) p) → Sums on sums

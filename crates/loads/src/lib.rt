@@ -3,8 +3,8 @@
 // A plan breaks no cap and is balanced. The caps are asked side by side, with the trays of all sets added up at once; the balance
 // is asked station by station. These functions are for the planner, whose proof shows what they require.
 ghost use mathlib.Core.Path.{_≡_};
-ghost use mathlib.Core.Bool.{Bool, true, false};
-ghost use Prim.Native.Nat.{ℕ, _*_, _^_, _≤_, _<_};
+ghost use mathlib.Core.Bool.{true};
+ghost use Prim.Native.Nat.{_*_, _≤_, _<_};
 ghost use lib.Dec.{leb};
 ghost use lib.ListN.{length, getD};
 ghost use Rattle.std.specs.Of.Vec.{vec-len};
@@ -32,13 +32,20 @@ fn side_width(tables: &Tables, side: usize) -> usize
     tables.sides[side].width
 }
 
+// A sum is not above its cap.
+fn is_within(sum: u64, cap: u32) -> bool
+    ensures { λ r. ⌜ r ≡ leb sum cap ⌝ }
+{
+    sum <= u64::from(cap)
+}
+
 // No sum is above its cap.
 fn sums_within(caps: &[u32], sums: &[u64]) -> bool
     requires { ⌜ length (now sums) ≡ length (now caps) ⌝ }
     ensures { λ r. ⌜ r ≡ every (length (now (caps .entry))) (λ X. leb (getD (now (sums .entry)) X 0) (getD (now (caps .entry)) X 0)) ⌝ }
 {
     for set in 0..caps.len() {
-        if sums[set] > u64::from(caps[set]) {
+        if !is_within(sums[set], caps[set]) {
             return false;
         }
     }

@@ -1,6 +1,5 @@
 use mathlib.Core.Path.{sym}
-use mathlib.Core.Bool.{Bool}
-use Prim.Native.Nat.{ℕ, _*_}
+use Prim.Native.Nat.{_*_}
 use native.Mathlib.Omega.{arith}
 use Rattle.polymatroid.proofs.Tables.{every-from}
 use Rattle.calls.specs.Does.{side-within}

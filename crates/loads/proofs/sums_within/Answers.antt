@@ -4,16 +4,14 @@ use Prim.Native.Nat.{ℕ}
 use native.Mathlib.Omega.{arith}
 use lib.Dec.{leb}
 use lib.ListN.{length, getD}
-use Rattle.std.proofs.shelf.Tests.{lt-leb}
 use Rattle.polymatroid.proofs.Tables.{every-from}
 use Rattle.loads.proofs.Every.{every-fails}
 use Rattle.loads.proofs.sums_within.Needs as need
 
-pub returns-then-sums-set : need.returns-then-sums-set
-returns-then-sums-set c =
+pub returns-then-not-is-within : need.returns-then-not-is-within
+returns-then-not-is-within c =
     let t : ℕ → Bool = λ X. leb (getD (c .args .sums .now) X 0) (getD (c .args .caps .now) X 0) in
-    sym (every-fails (length (c .args .caps .now)) t (c .loop-set .set) (omega arith)
-    (lt-leb (getD (c .args .sums .now) (c .loop-set .set) 0) (getD (c .args .caps .now) (c .loop-set .set) 0) (omega arith)))
+    sym (every-fails (length (c .args .caps .now)) t (c .loop-set .set) (omega arith) (sym (c .if-not-is-within .ensures tt)))
 
 pub returns : need.returns
 returns c =

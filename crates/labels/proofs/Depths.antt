@@ -15,9 +15,9 @@ use Rattle.polymatroid.proofs.Finite.{first-passes, first-before}
 use Rattle.levels.proofs.Counting.{pigeonhole-all}
 use Rattle.network.specs.States.{State, Pole, Plus, Minus}
 use Rattle.labelling.specs.Table.{Mark, Blank, Given, isAt, mark, nameOf, tableUpTo, label}
-use Rattle.labelling.proofs.Scan.{At-level, cases-mark}
-use Rattle.labelling.proofs.Levels.{Good, good-tab}
-use Rattle.labelling.proofs.Outcomes.{Ran, Done, Right, label-right}
+use Rattle.labelling.proofs.Scan.{At-level}
+use Rattle.labelling.proofs.Levels.{good-tab}
+use Rattle.labelling.proofs.Outcomes.{Right, label-right}
 use Rattle.labels.specs.Labels.{came-out}
 use Rattle.labels.specs.Paths.{level-of, Lies, Falls, Ended-at}
 use Rattle.labels.proofs.Trails.{labelled-below}

@@ -2,15 +2,14 @@
 use mathlib.Core.Path.{_≡_, refl, sym, ap, _∙_}
 use mathlib.Core.Bool.{Bool, true, false, cond}
 use mathlib.Core.List.{List, []}
-use Prim.Native.Nat.{ℕ, zero, suc, _+_, _-_, _<_}
+use Prim.Native.Nat.{ℕ, zero, suc, _+_}
 use native.Mathlib.Numerals.{add-one}
 use native.Mathlib.Omega.{arith}
 use lib.Dec.{ltb}
 use lib.ListN.{replicate}
-use Rattle.std.specs.declared.option.Option.{Option}
 use Rattle.std.specs.declared.option.Option.the-variants.{Some, None}
 use Rattle.network.specs.States.{State, Pole}
-use Rattle.labelling.specs.Table.{Mark, Blank, mark, give, listed, pass, tableUpTo, endingLane, laneOfLevel, Outcome, Ended, Finished, labelFrom, label}
+use Rattle.labelling.specs.Table.{Mark, mark, give, listed, pass, tableUpTo, endingLane, laneOfLevel, Ended, Finished, labelFrom, label}
 use Rattle.labels.specs.Labels.{marks, found}
 
 pub listed-same : (f h : ℕ → Mark) (n k : ℕ) → ((i : ℕ) → f i ≡ h i) → listed f n k ≡ listed h n k

@@ -1,9 +1,8 @@
 -- The marks of a table of labels, lane by lane, and what becomes of one that is offered a label.
 use mathlib.Core.Path.{_≡_, refl, sym, ap, _∙_}
 use mathlib.Core.Bool.{Bool, true, false, cond}
-use mathlib.Core.List.{List, [], _∷_, map}
-use Prim.Native.Nat.{ℕ, zero, suc, _+_, _<_}
-use native.Mathlib.Omega.{arith}
+use mathlib.Core.List.{List, [], _∷_}
+use Prim.Native.Nat.{ℕ, zero, suc, _<_}
 use lib.ListN.{getD, set, length}
 use Rattle.std.proofs.shelf.Lists.{map-set, set-getD, getD-read-under, length-map}
 use Rattle.std.proofs.shelf.Tests.{false≢true}
@@ -11,12 +10,11 @@ use Rattle.std.specs.Options.{isSome}
 use Rattle.std.specs.declared.option.Option.{Option}
 use Rattle.std.specs.declared.option.Option.the-variants.{Some, None}
 use Rattle.network.specs.States.{State, Plus, Minus}
-use Rattle.labelling.specs.Table.{Mark, Blank, Given, mark, give, listed}
+use Rattle.labelling.specs.Table.{Mark, Blank, Given, mark, give}
 use Rattle.labels.specs.declared.Sign.{Sign}
 use Rattle.labels.specs.declared.Sign.the-variants as sign
-use Rattle.labels.specs.declared.SignedLane.{SignedLane}
 use Rattle.labels.specs.declared.Label.{Label}
-use Rattle.labels.specs.Labels.{is-plus, from-state, gift, mark-of, marks}
+use Rattle.labels.specs.Labels.{is-plus, gift, mark-of, marks}
 
 -- the mark of a lane is that of its label
 pub mark-at : (t : List (Option Label)) (y : ℕ) → mark (marks t) y ≡ mark-of (getD t y None)

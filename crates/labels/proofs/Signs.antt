@@ -8,7 +8,6 @@ use lib.ListN.{getD, length}
 use lib.Dec.{eqb}
 use Rattle.std.specs.declared.option.Option.{Option}
 use Rattle.std.specs.declared.option.Option.the-variants.{Some, None}
-use Rattle.network.specs.States.{State}
 use Rattle.labelling.specs.Table.{Mark, Blank, Given, signed, mark, isAt, stateOf}
 use Rattle.std.proofs.shelf.Tests.{eq-eqb, ne-eqb, false≢true}
 use Rattle.std.specs.Options.{isSome}

@@ -3,12 +3,12 @@ use mathlib.Core.Path.{_≡_, refl, sym, ap, subst, _∙_}
 use mathlib.Core.Bool.{Bool, true, false}
 use mathlib.Core.Logic.{inl, inr}
 use mathlib.Core.List.{List, [], _∷_}
-use Prim.Native.Nat.{ℕ, zero, suc, _+_, _-_, _≤_, _<_}
+use Prim.Native.Nat.{ℕ, suc, _-_, _<_}
 use native.Mathlib.Omega.{arith}
 use lib.ListN.{length}
 use Rattle.std.proofs.shelf.Lists.{getD-past}
 use Rattle.std.proofs.shelf.Tests.{cases-lt}
-use Rattle.network.specs.States.{State, Pole, Plus, Minus, lane-number}
+use Rattle.network.specs.States.{State, Pole, lane-number}
 use Rattle.labelling.specs.Table.{Mark, Blank, signed, mark, nameOf}
 use Rattle.labels.specs.Paths.{level-of, Lies, Falls, trail}
 

@@ -20,6 +20,7 @@ ghost use Rattle.labels.specs.Paths.{level-of, Falls, Ended-at, trail};
 use std::alloc::AllocError;
 use std::alloc::Global;
 
+// Whether a path adds trays to a lane or takes them away.
 #[derive(Clone, Copy)]
 pub enum Sign {
     Plus,
@@ -209,7 +210,7 @@ impl LabelTable {
         self.labels.fill(None);
     }
 
-    // Labels the lanes level by level. Where a path ends, its level and its last lane.
+    // Labels the lanes anew, level by level, and answers the level and the lane at which a path ends, if one does.
     pub fn label<S: Scan>(&mut self, scan: &S) -> Option<(usize, usize)>
         requires { ⌜ lanes-in (now self) ≡ size (now scan) ⌝ }
         ensures outcome { λ r. ⌜ outcome-of (rule (now (scan .entry))) (size (now (scan .entry))) ≡ came-out r (marks-in (now (self .exit))) ⌝ }
@@ -219,6 +220,7 @@ impl LabelTable {
     {
         self.clear();
         self.scan_from(scan, None, 1);
+        // Each level but the last has a lane of its own, so that there are no more levels.
         for level in 1..self.labels.len() + 2 {
             if let Some(lane) = self.ending_lane(scan, level) {
                 return Some((level, lane));

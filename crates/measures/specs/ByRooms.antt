@@ -39,23 +39,46 @@ is-full M f d e = eqb (room-at M f d e) 0
 abbrev pub waits-for : Meaning → (ℕ → ℕ) → Bool → ℕ → ℕ → Bool
 waits-for M f d e g = ltb 0 (room-zeroing M f d e g)
 
+-- the rules of a scan, one by one: from the stock to a + lane
+abbrev pub start-plus : Meaning → (ℕ → ℕ) → ℕ → Bool
+start-plus M f g = eqb (stock (M .floor)) (M .floor .end leaving g) && not (is-full M f leaving g)
+
+-- from a + lane to the despatch
+abbrev pub plus-end : Meaning → (ℕ → ℕ) → ℕ → Bool
+plus-end M f e = eqb (M .floor .end entering e) (despatch (M .floor)) && not (is-full M f entering e)
+
+-- from a + lane to a + lane
+abbrev pub plus-plus : Meaning → (ℕ → ℕ) → ℕ → ℕ → Bool
+plus-plus M f e g = eqb (M .floor .end entering e) (M .floor .end leaving g) && (not (is-full M f entering e) && not (is-full M f leaving g))
+
+-- from a + lane to a - lane
+abbrev pub plus-minus : Meaning → (ℕ → ℕ) → ℕ → ℕ → Bool
+plus-minus M f e g =
+    eqb (M .floor .end entering e) (M .floor .end entering g)
+    && (not (eqb e g) && cond (is-full M f entering e) (waits-for M f entering e g) (ltb 0 (f g)))
+
+-- from a - lane to a + lane
+abbrev pub minus-plus : Meaning → (ℕ → ℕ) → ℕ → ℕ → Bool
+minus-plus M f e g =
+    eqb (M .floor .end leaving e) (M .floor .end leaving g)
+    && (not (eqb e g) && cond (is-full M f leaving g) (is-full M f leaving e && waits-for M f leaving g e) true)
+
+-- from a - lane to a - lane
+abbrev pub minus-minus : Meaning → (ℕ → ℕ) → ℕ → ℕ → Bool
+minus-minus M f e g = eqb (M .floor .end leaving e) (M .floor .end entering g) && ltb 0 (f g)
+
 -- the rules of a scan
 unfoldable pub ruled-by-rooms : Meaning → (ℕ → ℕ) → State → State → Bool
-ruled-by-rooms M f (Pole false) (Plus g) = eqb (stock (M .floor)) (M .floor .end leaving g) && not (is-full M f leaving g)
+ruled-by-rooms M f (Pole false) (Plus g) = start-plus M f g
 ruled-by-rooms M f (Pole false) (Pole c) = false
 ruled-by-rooms M f (Pole false) (Minus g) = false
 ruled-by-rooms M f (Pole true) y = false
-ruled-by-rooms M f (Plus e) (Pole true) = eqb (M .floor .end entering e) (despatch (M .floor)) && not (is-full M f entering e)
+ruled-by-rooms M f (Plus e) (Pole true) = plus-end M f e
 ruled-by-rooms M f (Plus e) (Pole false) = false
-ruled-by-rooms M f (Plus e) (Plus g) =
-    eqb (M .floor .end entering e) (M .floor .end leaving g) && (not (is-full M f entering e) && not (is-full M f leaving g))
-ruled-by-rooms M f (Plus e) (Minus g) =
-    eqb (M .floor .end entering e) (M .floor .end entering g)
-    && (not (eqb e g) && cond (is-full M f entering e) (waits-for M f entering e g) (ltb 0 (f g)))
-ruled-by-rooms M f (Minus e) (Plus g) =
-    eqb (M .floor .end leaving e) (M .floor .end leaving g)
-    && (not (eqb e g) && cond (is-full M f leaving g) (is-full M f leaving e && waits-for M f leaving g e) true)
-ruled-by-rooms M f (Minus e) (Minus g) = eqb (M .floor .end leaving e) (M .floor .end entering g) && ltb 0 (f g)
+ruled-by-rooms M f (Plus e) (Plus g) = plus-plus M f e g
+ruled-by-rooms M f (Plus e) (Minus g) = plus-minus M f e g
+ruled-by-rooms M f (Minus e) (Plus g) = minus-plus M f e g
+ruled-by-rooms M f (Minus e) (Minus g) = minus-minus M f e g
 ruled-by-rooms M f (Minus e) (Pole c) = false
 
 -- rooms alone decide the rules

@@ -1,5 +1,5 @@
 -- The name that is read is that of the lane's mark.
-use mathlib.Core.Path.{_≡_, sym, ap, _∙_}
+use mathlib.Core.Path.{sym, ap, _∙_}
 use native.Mathlib.Omega.{arith}
 use Rattle.std.specs.Of.Vec.{vec-items, vec-len}
 use Rattle.labelling.specs.Table.{nameOf}

@@ -1,11 +1,8 @@
 -- A lane keeps its label, or takes the one that it is given, if any.
-use mathlib.Core.Path.{_≡_, refl}
-use Prim.Native.Nat.{_<_}
+use mathlib.Core.Path.{refl}
 use native.Mathlib.Omega.{arith}
-use lib.ListN.{length}
 use Rattle.std.specs.Of.Vec.{vec-items, vec-len}
-use Rattle.labelling.specs.Table.{mark}
-use Rattle.labels.specs.Labels.{from-state, mark-of, marks}
+use Rattle.labels.specs.Labels.{from-state, marks}
 use Rattle.labels.proofs.Marks.{mark-read, offered-known, offered-none, offered-some}
 use Rattle.labels.proofs.LabelTable.offer.Needs as need
 

@@ -1,11 +1,10 @@
 -- The lanes from the last back to the stock, in reverse, are the path.
 use mathlib.Core.Path.{_≡_, sym, ap, _∙_}
 use mathlib.Core.List.{_++_, map, reverse}
-use Prim.Native.Nat.{_<_}
 use native.Mathlib.Omega.{arith}
 use Rattle.std.specs.Of.Vec.{vec-items, vec-len}
 use Rattle.labelling.specs.Table.{mark, stateOf}
-use Rattle.labels.specs.Labels.{is-plus, signed-state, mark-of, marks}
+use Rattle.labels.specs.Labels.{signed-state, mark-of, marks}
 use Rattle.labels.specs.Paths.{level-of, trail}
 use Rattle.labels.proofs.Marks.{marks-length, mark-read}
 use Rattle.labels.proofs.Rows.{trail-row, map-reversed}

@@ -1,7 +1,7 @@
 -- Each lane is scanned once, so that in the end all are.
 use mathlib.Core.Path.{_≡_, refl, ap, _∙_}
 use native.Mathlib.Omega.{arith}
-use Rattle.std.specs.Of.Vec.{vec-items, vec-len}
+use Rattle.std.specs.Of.Vec.{vec-items}
 use Rattle.labelling.specs.Sweep.{swept}
 use Rattle.labels.specs.Labels.{marks}
 use Rattle.labels.proofs.Marks.{marks-length}

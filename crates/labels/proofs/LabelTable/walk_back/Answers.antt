@@ -1,5 +1,5 @@
 -- Each turn adds a lane, and goes to the one that it names.
-use mathlib.Core.Path.{_≡_, sym, ap, _∙_}
+use mathlib.Core.Path.{sym, ap, _∙_}
 use mathlib.Core.List.{_++_, map, append-assoc}
 use native.Mathlib.Omega.{arith}
 use Rattle.std.specs.Of.Vec.{vec-items, vec-len}

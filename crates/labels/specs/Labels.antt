@@ -63,6 +63,11 @@ abbrev pub sign-at : ℕ → Mark → Option Sign
 sign-at l Blank = None
 sign-at l (Given s x k) = cond (eqb k l) (Some (sign-of s)) None
 
+-- the sign of a mark, if it is one
+abbrev pub sign-in : Mark → Option Sign
+sign-in Blank = None
+sign-in (Given s x k) = Some (sign-of s)
+
 -- the lane that a search among m lanes came to, if it found one
 abbrev pub found : ℕ → ℕ → Option ℕ
 found m e = cond (ltb e m) (Some e) None

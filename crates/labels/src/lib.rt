@@ -15,7 +15,7 @@ ghost use Rattle.network.specs.States.{State, Pole};
 ghost use Rattle.labelling.specs.Table.{mark, nameOf, isAt, stateOf, give, listed, pass, endingLane, laneOfLevel, label as outcome-of, path as path-to};
 ghost use Rattle.labelling.specs.Sweep.{scan as lane-scanned};
 ghost use Rattle.labelling.specs.Steps.{row};
-ghost use Rattle.labels.specs.Labels.{Known, signed-state, from-state, gift, sign-at, found, came-out, marks-in, lanes-in};
+ghost use Rattle.labels.specs.Labels.{Known, signed-state, from-state, gift, sign-at, sign-in, found, came-out, marks-in, lanes-in};
 ghost use Rattle.labels.specs.Paths.{level-of, Falls, Ended-at, trail};
 use std::alloc::AllocError;
 use std::alloc::Global;
@@ -242,6 +242,17 @@ impl LabelTable {
             return None;
         };
         label.name
+    }
+
+    // The sign of a lane's label, if it has one.
+    pub fn sign(&self, lane: usize) -> Option<Sign>
+        requires { ⌜ lane < lanes-in (now self) ⌝ }
+        ensures { λ r. ⌜ r ≡ sign-in (mark (marks-in (now (self .entry))) lane) ⌝ }
+    {
+        let Some(label) = self.labels[lane] else {
+            return None;
+        };
+        Some(label.sign)
     }
 
     // Adds a lane and those before it, back to the stock.

@@ -22,7 +22,7 @@ use Rattle.labelling.proofs.Same.{Among, label-same}
 use Rattle.measures.specs.ByRooms.{room-at, room-zeroing, is-full, waits-for, ruled-by-rooms, Rooms-rule, Rooms-label, beside, Another, Rooms-beside}
 
 module _ (M : Meaning) (f : ℕ → ℕ) where
-  full-is : (d : Bool) (e : ℕ) → is-full M f d e ≡ full M f d e
+  pub full-is : (d : Bool) (e : ℕ) → is-full M f d e ≡ full M f d e
   unfolding room-at full
   full-is d e = refl
 

@@ -249,10 +249,10 @@ impl LabelTable {
         requires { ⌜ lane < lanes-in (now self) ⌝ }
         ensures { λ r. ⌜ r ≡ sign-in (mark (marks-in (now (self .entry))) lane) ⌝ }
     {
-        let Some(label) = self.labels[lane] else {
+        let Some(given) = self.labels[lane] else {
             return None;
         };
-        Some(label.sign)
+        Some(given.sign)
     }
 
     // Adds a lane and those before it, back to the stock.

@@ -2,14 +2,16 @@
 use mathlib.Core.Path.{_≡_}
 use mathlib.Core.Bool.{Bool, true}
 use mathlib.Core.List.{List}
-use Prim.Native.Nat.{ℕ, suc, min, _<_}
+use Prim.Native.Nat.{ℕ, suc, min, _≤_, _<_}
 use lib.ListN.{length, getD}
 use Rattle.std.specs.Of.Vec.{vec-len}
 use Rattle.polymatroid.specs.Finite.{least}
 use Rattle.floor.specs.Floor.{leaving, entering}
-use Rattle.floor.specs.Meaning.{Meaning}
-use Rattle.network.specs.States.{State, Pole, Plus, Minus}
+use Rattle.floor.specs.Meaning.{Meaning, Lawful}
+use Rattle.network.specs.Plans.{Fits}
+use Rattle.network.specs.States.{State, Pole, Plus, Minus, On-floor, holder}
 use Rattle.rooms.specs.Rooms.{at}
+use Rattle.labelling.specs.Amount.{amountOf}
 use Rattle.labelling.specs.Augmenting.{along}
 use Rattle.tables.specs.Tables.{meaning-in}
 use Rattle.tables.specs.declared.tables.Tables.{Tables}
@@ -37,3 +39,11 @@ amount-by-rooms M f p = least-through M f p (length p)
 pub record Rooms-at (t : Tables) (trays : List ℕ) (d : Bool) (rooms : List ℕ) : Type 0 where
   pub all : length rooms ≡ vec-len (t .lanes)
   pub each : (e : ℕ) → e < vec-len (t .lanes) → getD rooms e 0 ≡ room-at (meaning-in t) (at trays) d e
+
+-- on a path of the floor whose neighbours are different lanes, this is the amount of the rules
+abbrev pub Amounts-by-rooms : Type 0
+Amounts-by-rooms =
+    (M : Meaning) (f : ℕ → ℕ) → Lawful M → Fits M f → (p : List State) → 0 < length p
+    → ((i : ℕ) → i ≤ suc (length p) → On-floor M (along p i))
+    → ((i : ℕ) → i ≤ length p → holder (along p i) ≡ holder (along p (suc i)) → ⊥)
+    → amount-by-rooms M f p ≡ amountOf M f p

@@ -13,7 +13,7 @@ ghost use Rattle.labelling.specs.Steps.{shifted};
 ghost use Rattle.labels.specs.Labels.{Known, signed-state, from-state};
 ghost use Rattle.tables.specs.Tables.{meaning-in};
 ghost use Rattle.measures.specs.ByRooms.{beside as room-beside};
-ghost use Rattle.moves.specs.Amount.{Rooms-at, term-by-rooms, through, amount-by-rooms};
+ghost use Rattle.moves.specs.Amount.{Rooms-at, term-by-rooms, through, amount-by-rooms, Amounts-by-rooms};
 ghost use Rattle.moves.specs.Paths.{Among, to-state};
 use labels::Sign;
 use labels::SignedLane;
@@ -43,7 +43,7 @@ pub fn make_move(path: &[SignedLane], amount: u32, trays: &mut [u32])
     requires among { ⌜ Among (length (now trays)) (map signed-state (now path)) ⌝ }
     requires short { ⌜ length (now path) ≤ most-lanes ⌝ }
     requires little { ⌜ amount ≤ top-cap ⌝ }
-    requires capped { ⌜ ((e : ℕ) → getD (now trays) e 0 ≤ top-cap) ⌝ }
+    requires capped { ⌜ ((e : ℕ) → e < length (now trays) → getD (now trays) e 0 ≤ top-cap) ⌝ }
     ensures all { λ _. ⌜ length (now (trays .exit)) ≡ length (now (trays .entry)) ⌝ }
     ensures each { λ _. ⌜ ((e : ℕ) → getD (now (trays .exit)) e 0 ≡ shifted amount (map signed-state (now (path .entry))) (at (now (trays .entry))) e) ⌝ }
 {
@@ -195,3 +195,8 @@ pub fn amount_of(
     }
     least
 }
+
+// The amount that is worked out from rooms is the amount of the rules.
+pub fn amounts_by_rooms()
+    ensures { λ _. ⌜ Amounts-by-rooms ⌝ }
+{}

@@ -1,6 +1,7 @@
 -- Each turn moves the trays of one lane.
 use mathlib.Core.Path.{_≡_, sym, ap, _∙_}
 use mathlib.Core.List.{map}
+use Prim.Native.Nat.{_<_}
 use native.Mathlib.Omega.{arith}
 use lib.ListN.{length}
 use Rattle.std.proofs.shelf.Lists.{drop-all}
@@ -16,9 +17,11 @@ pub move-lane-requires : need.move-lane-requires
 move-lane-requires c κs =
     let path = c .args .path .now in
     let k = c .loop-step .step in
+    let on : signed-at path k .lane < length (c .loop-step .trays) =
+    omega (arith, lane-below (length (c .args .trays .now)) path k (c .loop-step-test .taken) (c .pre .among), c .loop-step .kept .trays) in
     record {
-      on = omega (arith, lane-below (length (c .args .trays .now)) path k (c .loop-step-test .taken) (c .pre .among), c .loop-step .kept .trays);
-      fits = omega (arith, c .loop-step .inv .1 (signed-at path k .lane), c .pre .little, c .pre .short, c .loop-step-test .taken);
+      on = on;
+      fits = omega (arith, c .loop-step .inv .1 (signed-at path k .lane) on, c .pre .little, c .pre .short, c .loop-step-test .taken);
     }
 
 pub loop-step-again : need.loop-step-again
@@ -26,11 +29,11 @@ loop-step-again c =
     let path = c .args .path .now in
     let k = c .loop-step .step in (
       shifted-more (c .args .amount) path k (c .loop-step-test .taken) (c .loop-step .trays) (c .move-lane .last .trays) (c .move-lane .ensures .each) ∙ c .loop-step .inv .0,
-      λ e. omega (
+      λ e l. omega (
         arith,
         c .move-lane .ensures .each e,
         applied-most (c .args .amount) (signed-state (signed-at path k)) (at (c .loop-step .trays)) e,
-        c .loop-step .inv .1 e,
+        c .loop-step .inv .1 e (omega (arith, c .move-lane .ensures .all)),
         c .pre .little,
       ),
     )

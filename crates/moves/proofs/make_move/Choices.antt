@@ -1,7 +1,7 @@
 use mathlib.Core.Path.{_≡_}
 use mathlib.Core.List.{map}
-use Prim.Native.Nat.{ℕ, _+_, _*_, _≤_}
-use lib.ListN.{getD, drop}
+use Prim.Native.Nat.{ℕ, _+_, _*_, _≤_, _<_}
+use lib.ListN.{length, getD, drop}
 use Rattle.floor.specs.Numbers.{top-cap}
 use Rattle.rooms.specs.Rooms.{at}
 use Rattle.labelling.specs.Steps.{shifted}
@@ -12,4 +12,4 @@ use Rattle.moves.proofs.make_move.Given as given
 abbrev pub Inv-loop-step : given.InvT-loop-step
 Inv-loop-step l =
     (shifted (l .amount) (map signed-state (drop (l .step) (l .path))) (at (l .trays)) ≡ shifted (l .amount) (map signed-state (l .path)) (at (l .entry .trays)))
-    × ((e : ℕ) → getD (l .trays) e 0 ≤ top-cap + l .step * top-cap)
+    × ((e : ℕ) → e < length (l .trays) → getD (l .trays) e 0 ≤ top-cap + l .step * top-cap)

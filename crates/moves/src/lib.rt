@@ -58,11 +58,7 @@ fn end_of(tables: &Tables, lane: usize, entering: bool) -> usize
     ensures { λ r. ⌜ r ≡ meaning-in (now (tables .entry)) .floor .end entering lane ⌝ }
 {
     let row = tables.lanes[lane];
-    if entering {
-        row.to
-    } else {
-        row.from
-    }
+    if entering { row.to } else { row.from }
 }
 
 // The room of a lane at one of its ends beside a neighbour in the path, whose trays count as none if it lies on the same side.

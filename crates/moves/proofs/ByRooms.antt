@@ -1,7 +1,6 @@
 -- The amount by rooms is the amount of the rules.
 use mathlib.Core.Path.{_≡_, refl, sym, ap, _∙_}
 use mathlib.Core.Bool.{true}
-use mathlib.Core.List.{List}
 use Prim.Native.Nat.{ℕ, suc, min, _<_}
 use native.Mathlib.Omega.{arith}
 use lib.ListN.{length}

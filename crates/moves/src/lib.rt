@@ -1,11 +1,11 @@
 // The move of a step along its path: how many trays it moves, and the moving.
 ghost use mathlib.Core.Path.{_≡_};
-ghost use mathlib.Core.Bool.{true, false};
 ghost use mathlib.Core.List.{map};
 ghost use Prim.Native.Nat.{ℕ, suc, _+_, _≤_, _<_};
 ghost use lib.ListN.{length, getD};
 ghost use Rattle.std.specs.Of.Vec.{vec-len};
 ghost use Rattle.floor.specs.Numbers.{most-lanes, top-cap};
+ghost use Rattle.floor.specs.Floor.{leaving, entering};
 ghost use Rattle.network.specs.States.{applied};
 ghost use Rattle.rooms.specs.Rooms.{at};
 ghost use Rattle.labelling.specs.Augmenting.{along};
@@ -99,8 +99,8 @@ fn let_through(
     after: Option<SignedLane>,
 ) -> u32
     requires trays { ⌜ length (now trays) ≡ vec-len (now tables .lanes) ⌝ }
-    requires out { ⌜ Rooms-at (now tables) (now trays) false (now «out_rooms») ⌝ }
-    requires into { ⌜ Rooms-at (now tables) (now trays) true (now «in_rooms») ⌝ }
+    requires out { ⌜ Rooms-at (now tables) (now trays) leaving (now «out_rooms») ⌝ }
+    requires into { ⌜ Rooms-at (now tables) (now trays) entering (now «in_rooms») ⌝ }
     requires before { ⌜ Known (vec-len (now tables .lanes)) before ⌝ }
     requires lane { ⌜ lane .lane < vec-len (now tables .lanes) ⌝ }
     requires after { ⌜ Known (vec-len (now tables .lanes)) after ⌝ }
@@ -152,8 +152,8 @@ fn through_at(
     place: usize,
 ) -> u32
     requires trays { ⌜ length (now trays) ≡ vec-len (now tables .lanes) ⌝ }
-    requires out { ⌜ Rooms-at (now tables) (now trays) false (now «out_rooms») ⌝ }
-    requires into { ⌜ Rooms-at (now tables) (now trays) true (now «in_rooms») ⌝ }
+    requires out { ⌜ Rooms-at (now tables) (now trays) leaving (now «out_rooms») ⌝ }
+    requires into { ⌜ Rooms-at (now tables) (now trays) entering (now «in_rooms») ⌝ }
     requires among { ⌜ Among (vec-len (now tables .lanes)) (map signed-state (now path)) ⌝ }
     requires place { ⌜ place < length (now path) ⌝ }
     ensures { λ r. ⌜ r ≡ through (meaning-in (now (tables .entry))) (at (now (trays .entry))) (map signed-state (now (path .entry))) place ⌝ }
@@ -178,8 +178,8 @@ pub fn amount_of(
     path: &[SignedLane],
 ) -> u32
     requires trays { ⌜ length (now trays) ≡ vec-len (now tables .lanes) ⌝ }
-    requires out { ⌜ Rooms-at (now tables) (now trays) false (now «out_rooms») ⌝ }
-    requires into { ⌜ Rooms-at (now tables) (now trays) true (now «in_rooms») ⌝ }
+    requires out { ⌜ Rooms-at (now tables) (now trays) leaving (now «out_rooms») ⌝ }
+    requires into { ⌜ Rooms-at (now tables) (now trays) entering (now «in_rooms») ⌝ }
     requires among { ⌜ Among (vec-len (now tables .lanes)) (map signed-state (now path)) ⌝ }
     requires some { ⌜ 0 < length (now path) ⌝ }
     ensures { λ r. ⌜ r ≡ amount-by-rooms (meaning-in (now (tables .entry))) (at (now (trays .entry))) (map signed-state (now (path .entry))) ⌝ }

@@ -1,0 +1,4 @@
+pub mod Amounts
+pub mod ByRooms
+pub mod Reading
+pub mod Shifting

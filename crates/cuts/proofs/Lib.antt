@@ -1,2 +1,3 @@
 pub mod Nearing
 pub mod Filling
+pub mod Bytes

@@ -6,7 +6,7 @@ ghost use Rattle.std.specs.Of.Vec.{vec-len};
 ghost use Rattle.labelling.specs.Near.{nears, near};
 ghost use Rattle.tables.specs.Tables.{meaning-in};
 ghost use Rattle.labels.specs.Labels.{marks-in, lanes-in};
-ghost use Rattle.cuts.specs.Cut.{Entering-rooms, near-byte, byte-near, cut-byte};
+ghost use Rattle.cuts.specs.Cut.{Entering-rooms, near-byte, byte-near, cut-byte, Cut-bytes};
 use labels::LabelTable;
 use labels::Sign;
 use tables::Tables;
@@ -94,3 +94,8 @@ pub fn fill_sides(tables: &Tables, labels: &LabelTable, stations: &[u8], lanes: 
         lanes[lane] = side_byte(tables, labels, stations, lane);
     }
 }
+
+// The bytes are those of the cut that a plan tells.
+pub fn cut_bytes()
+    ensures { λ _. ⌜ Cut-bytes ⌝ }
+{}

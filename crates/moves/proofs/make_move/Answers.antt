@@ -1,5 +1,5 @@
 -- Each turn moves the trays of one lane.
-use mathlib.Core.Path.{_≡_, sym, ap, _∙_}
+use mathlib.Core.Path.{sym, ap, _∙_}
 use mathlib.Core.List.{map}
 use Prim.Native.Nat.{_<_}
 use native.Mathlib.Omega.{arith}
@@ -42,9 +42,8 @@ pub returns : need.returns
 unfolding shifted
 returns c =
     let path = c .args .path .now in
-    let end : c .loop-step .step ≡ length path = omega arith in
     record {
       all = c .loop-step .kept .trays;
-      each = λ e. sym (ap (λ p. shifted (c .args .amount) (map signed-state p) (at (c .loop-step .trays)) e) (drop-all (c .loop-step .step) path (omega (arith, end))))
+      each = λ e. sym (ap (λ p. shifted (c .args .amount) (map signed-state p) (at (c .loop-step .trays)) e) (drop-all (c .loop-step .step) path (omega arith)))
           ∙ ap (λ f. f e) (c .loop-step .inv .0);
     }

@@ -14,5 +14,5 @@ returns-in-rest c =
 
 pub returns : need.returns
 returns c =
-    ap Some (sym (sign-back (c .in-Some .label .sign)))
+    ap Some (sym (sign-back (c .in-Some .given .sign)))
     ∙ sym (ap sign-in (mark-read (vec-items (c .args .self .now .labels)) (c .args .lane) (vec-len (c .args .self .now .labels)) _ (c .index .ensures) (omega arith) (omega arith) ∙ ap mark-of (c .in-Some .is)))

@@ -2,6 +2,8 @@
 // in hex digits and, after a space, what is told of its plan; tools/make_plans.py, which writes the lines, says how. A floor agrees
 // where a plan that is stepped to its end tells just that, and plans that are run and loaded tell the same. The program prints a line
 // for each floor that does not agree, and how many there were and agreed.
+#![tactic(auto)]
+
 mod checks;
 mod told;
 

@@ -3,6 +3,8 @@
 //
 // A file plant keeps the rules of a plant file at every point, so every floor and every cap that it answers is lawful, and each
 // answer is equal to what its records mean. Which records a plant is made of is for the reader of plant files to say.
+#![tactic(auto)]
+
 mod file_plant;
 mod questions;
 

@@ -2,6 +2,8 @@
 // or none, changed by the moves since; finished is answered exactly when no plan carries more; moves are counted and few.
 // specs/Law.antt is the promise, in the words of the subject; specs/Does.antt is what each call does; the theorem is that plans
 // which do that keep the promise. The calls themselves are the matter of the crate plan.
+#![tactic(auto)]
+
 ghost use Rattle.std.specs.Prelude.{◌≡◌};
 ghost use Rattle.calls.specs.Refusals.{refusal_number};
 ghost use Rattle.calls.specs.Law.{TraysAreDetermined};

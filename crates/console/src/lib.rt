@@ -1,5 +1,7 @@
 // What the programs share: the file on standard input, what is printed of it, and how a program ends. No contract can speak of input
 // and output, so that all work on the bytes is done elsewhere.
+#![tactic(auto)]
+
 use std::alloc::AllocError;
 use std::io;
 use std::io::Read;

@@ -1,4 +1,6 @@
 // The cut that the labels of a finished plan show: which stations are near, and which lanes lead from near to far.
+#![tactic(auto)]
+
 ghost use Rattle.std.specs.Prelude.{◌≡◌, ℕ, ◌<◌, length, if◌then◌else◌, vec_len, slice_index};
 ghost use Rattle.tables.specs.Tables.{meaning_in};
 ghost use Rattle.labels.specs.Labels.{marks_in, lanes_in};

@@ -1,5 +1,7 @@
 // How a file is cut into records: a two-byte length that counts the whole record, a two-byte kind, then the body. `first_frame` takes
 // any bytes, and its answer is equal to the definition of the format. What a body holds is for the record layer.
+#![tactic(auto)]
+
 ghost use Rattle.std.specs.Prelude.{◌≡◌};
 ghost use Rattle.plantformat.specs.Judge.{framed, kind_of};
 ghost use Rattle.framing.specs.Frames.{cut_at, cut_shown, frame_shown};

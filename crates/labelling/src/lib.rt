@@ -1,6 +1,8 @@
 // Labelling as the rules give it, the step that it leads to, and why a plan is right: each function's contract is one theorem.
 // specs/Rules, Table, Augmenting, Amount, Steps and Near are the rules, as definitions that compute; specs/Theorems is what
 // they promise. What a move does to a floor is the matter of the crate network.
+#![tactic(auto)]
+
 ghost use Rattle.labelling.specs.Rules.{RulesGive};
 ghost use Rattle.labelling.specs.Theorems.{AugmentingIsResidual, FirstShortestPath, MovesKeepPlansFeasible, MovesAreFew, RunsFinish, FinishedIsBest, PathMissingWhenBest, AnyOrder};
 ghost use Rattle.labelling.specs.Sweep.{SweepsAgree};

@@ -2,6 +2,8 @@
 // their order, and each gives labels of the next level to lanes that have none. Who gives a label to whom is asked of a `Scan`,
 // so the table knows nothing of floors and trays. A level with a lane that ends a path ends the labelling, and the path is read
 // back along the names. The contracts say that all this is the labelling that the crate labelling defines.
+#![tactic(auto)]
+
 ghost use Rattle.std.specs.Prelude.{◌≡◌, ℕ, ◌+◌, ◌<◌, ◌≤◌, Bool, true, ◌&&◌, ◌++◌, map, replicate, IfOk, Some, None, vec_len, vec_capacity, nat_lt, slice_set};
 ghost use Rattle.network.specs.States.{State, Pole};
 ghost use Rattle.labelling.specs.Table.{mark, name_of, is_at, state_of, give, listed, pass, ending_lane, lane_of_level, label as outcome_of, path as path_to};

@@ -1,6 +1,8 @@
 // Theorems about a finite relation, nothing of floors: walks and levels, what happens to them when the relation changes by
 // splicing along a shortest path, and how many changes there can be. Each function's contract is one theorem; the lemmas in
 // proofs/ hold for any states and relations.
+#![tactic(auto)]
+
 ghost use Rattle.levels.specs.Levels.{LevelsRise, LevelsRiseBack, NumbersRise};
 ghost use Rattle.levels.specs.Counting.{FewAtOneLength, FewInAll};
 

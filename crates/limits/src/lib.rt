@@ -5,6 +5,8 @@
 // `cap_of` gives the cap of a set under a limit that passed, equal to what the limit means. The laws of a table are tested lane by
 // lane, which decides them over all pairs of sets. These functions are for the reader of plant files and the plant that it makes, whose
 // proofs show what they require.
+#![tactic(auto)]
+
 ghost use Rattle.std.specs.Prelude.{◌≡◌};
 ghost use Rattle.plantformat.specs.Records.{side_of};
 ghost use Rattle.limits.specs.Told.{told};

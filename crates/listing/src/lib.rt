@@ -1,6 +1,8 @@
 // How a plant and a refusal are shown to a reader, as lines of text. A plant is asked through the trait alone, so any plant can be
 // shown; the lines are those that specs/Lines.antt computes from its meaning. The listing asks only about what is on the floor, where
 // no question is refused, so each answer is unwrapped, and the proofs show that it is there. Where memory runs out there is no listing.
+#![tactic(auto)]
+
 ghost use Rattle.std.specs.Prelude.{◌≡◌, ◌<◌, IfOk, decimal};
 ghost use Rattle.floor.specs.Floor.{sides, width as side_width};
 ghost use Rattle.listing.specs.Lines.{Adds, spaced, floor_line, lane_line, lane_lines, lanes_on, caps_on, side_shown, side_lines, plant_lines, layer_word, refusal_line};

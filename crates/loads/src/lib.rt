@@ -2,6 +2,8 @@
 //
 // A plan breaks no cap and is balanced. The caps are asked side by side, with the trays of all sets added up at once; the balance
 // is asked station by station. These functions are for the planner, whose proof shows what they require.
+#![tactic(auto)]
+
 ghost use Rattle.std.specs.Prelude.{◌≡◌, ◌*◌, ◌<◌, ◌≤◌, true, leb, length, vec_len, nat_le, slice_index};
 ghost use Rattle.polymatroid.specs.Tables.{every};
 ghost use Rattle.floor.specs.Numbers.{most_on_side};

@@ -1,4 +1,6 @@
 // How a step is worked out from rooms.
+#![tactic(auto)]
+
 ghost use Rattle.measures.specs.ByRooms.{RoomsRule, RoomsLabel, RoomsBeside};
 
 mod lanes;

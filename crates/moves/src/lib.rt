@@ -1,4 +1,6 @@
 // The move of a step along its path: how many trays it moves, and the moving.
+#![tactic(auto)]
+
 ghost use Rattle.std.specs.Prelude.{◌≡◌, ℕ, suc, ◌+◌, ◌<◌, ◌≤◌, map, length, vec_len, slice_index};
 ghost use Rattle.floor.specs.Numbers.{most_lanes, top_cap};
 ghost use Rattle.floor.specs.Floor.{leaving, entering};

@@ -2,6 +2,8 @@
 // lets an amount of trays through, and that is the residual relation. Each function's contract is one theorem: a move along a
 // path without detour keeps within the caps and balanced, its critical pair dies, new steps splice, lengths rise, cuts bound.
 // Which path a step takes is the matter of the crate labelling.
+#![tactic(auto)]
+
 ghost use Rattle.network.specs.Moves.{MoveFits, MoveBalances, PairDies, StepsSplice};
 ghost use Rattle.network.specs.Stages.{LengthsRise, PairsDiffer, FewShareALength, FewStages};
 ghost use Rattle.network.specs.Found.{SearchFinds};

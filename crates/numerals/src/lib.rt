@@ -1,5 +1,7 @@
 // Numbers as they are written: the two-byte and four-byte numbers of a plant file, lowest byte first, and a set of positions as the
 // number whose binary digits tell which positions are in it.
+#![tactic(auto)]
+
 ghost use Rattle.std.specs.Prelude.{◌≡◌, ◌+◌, ◌/◌, ◌%◌, ◌^◌, ◌≤◌, ◌<◌, length};
 ghost use Rattle.polymatroid.specs.Sets.{has};
 ghost use Rattle.plantformat.specs.Bytes.{word, long};

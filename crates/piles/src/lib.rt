@@ -3,6 +3,8 @@
 //
 // What each means is defined from what the plant below means, and it keeps the laws since that plant does. Closings and ceilings
 // are set on the pile itself; a plan takes the pile by value, so nothing can be set once a plan is open.
+#![tactic(auto)]
+
 ghost use Rattle.piles.specs.Meant.{ClosingCloses, CeilingBounds};
 
 mod ceiling;

@@ -2,6 +2,8 @@
 // station to another and is not one too many; a side has no second limit, and the numbers of a limit keep the rules and the laws.
 //
 // `fits` takes a record whose numbers are in their ranges, and its answer is equal to the definition of the format.
+#![tactic(auto)]
+
 ghost use Rattle.std.specs.Prelude.{◌≡◌, ◌*◌, ◌<◌, true, nat_le};
 ghost use Rattle.floor.specs.Numbers.{most_on_side};
 ghost use Rattle.plantformat.specs.Rules.{lane_leads, lane_ranged};

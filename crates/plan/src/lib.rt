@@ -3,6 +3,8 @@
 // A plan takes its plant, asks it every question once, and answers loads, steps, runs and readings in any order. The contract of
 // each call says exactly what it answers and leaves, and that the plan keeps the promise of the crate calls with this call too,
 // whatever it met before; `answers` says the whole promise of every list of calls. All memory is taken when a plan is opened.
+#![tactic(auto)]
+
 ghost use Rattle.std.specs.Prelude.{◌≡◌, IfOk, IfErr};
 ghost use Rattle.calls.specs.Events.{loaded, stepped, ran, told_total, told_moves, told_trays, told_cut};
 ghost use Rattle.plan.specs.Plans.{Planned, Opens, Meets};

@@ -1,6 +1,8 @@
 // How a plan is shown to a reader, as lines of text: the trays and the moves in all, then a line for each lane and one for each
 // station. The lines are those that specs/PlanLines.antt computes from what is told of the plan; nothing is asked of it, so any
 // numbers can be shown. Where memory runs out there is no listing.
+#![tactic(auto)]
+
 ghost use Rattle.std.specs.Prelude.{◌≡◌, ◌<◌, length, IfOk, slice_index_or};
 ghost use Rattle.listing.specs.Lines.{Adds};
 ghost use Rattle.planlines.specs.PlanLines.{no_mark, station_word, total_line, lane_line, lane_lines, station_line, station_lines, plan_lines};

@@ -1,6 +1,8 @@
 // The calls on a plan, on the tables of its plant: loads, steps, runs and readings. Each contract says that the call does what the
 // crate calls defines for it, over the floor and the caps that the tables mean, and leaves the tables as they are. All memory is
 // taken when a plan is opened.
+#![tactic(auto)]
+
 ghost use Rattle.std.specs.Prelude.{◌≡◌, ℕ, map, IfOk, vec_len, slice_index};
 ghost use Rattle.labelling.specs.Steps.{shifted};
 ghost use Rattle.labels.specs.Labels.{signed_state};

@@ -1,5 +1,7 @@
 // A plan that carries the most, as lines of text: a plan is opened above any plant, run until it is finished, and read. What is told
 // of it is said in specs/Best.antt in the words of the subject: right moves made it, no plan carries more, and the cut shows why.
+#![tactic(auto)]
+
 ghost use Rattle.std.specs.Prelude.{◌≡◌, IfOk};
 ghost use Rattle.planning.specs.Best.{EndedPlan, BestLines};
 

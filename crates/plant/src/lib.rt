@@ -1,6 +1,8 @@
 // The questions that stand between a plan and whatever it is made for. A plan asks any plant the same eight questions; a
 // plant answers by its meaning, a floor with caps, and refuses a question exactly where it names what is not on the floor.
 // Whoever writes a plant owes the proof that its meaning keeps the floor's rules and the four laws of the caps.
+#![tactic(auto)]
+
 ghost use Rattle.std.specs.Prelude.{◌≡◌};
 ghost use Rattle.floor.specs.Floor.{stock, despatch};
 ghost use Rattle.floor.specs.Meaning.{Meaning, Lawful};

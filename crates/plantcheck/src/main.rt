@@ -1,6 +1,8 @@
 // Judges a plant file. The file comes on standard input; the program prints the plant with every cap that a planner will go by,
 // and ends with status 0, or prints the one line of the refusal and ends with status 1. A read or a write that fails, and want
 // of memory, are told in one line on standard error, with status 1.
+#![tactic(auto)]
+
 ghost use Rattle.std.specs.Prelude.{IfOk};
 ghost use Rattle.plantformat.specs.Judge.{judge};
 ghost use Rattle.plantcheck.specs.Answers.{Answers};

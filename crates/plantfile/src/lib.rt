@@ -6,6 +6,8 @@
 //
 // `read_plant` promises that its verdict is that of the definition `judge`, that a file is accepted exactly when it encodes records
 // that keep the rules, and that the plant then means what those records define; a refused file leaves the empty floor.
+#![tactic(auto)]
+
 mod reading;
 
 pub use answers::FilePlant;

@@ -1,6 +1,8 @@
 // What a plant file says, and which files are refused: the records of a file, their rules, the caps that they define, and the
 // order of the checks. The definitions are in specs/; this file holds the words that they and the reader share, and the
 // theorem that the checks accept exactly the files that encode records which keep the rules.
+#![tactic(auto)]
+
 ghost use Rattle.std.specs.Prelude.{◌≡◌};
 ghost use Rattle.plantformat.specs.Faults.{told, law_number};
 ghost use Rattle.plantformat.specs.Promise.{AcceptedFilesEncode, EncodingsAreAccepted, AcceptedPlantsAreLawful};

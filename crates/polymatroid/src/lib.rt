@@ -2,6 +2,8 @@
 // a plant gives caps (own caps of the lanes, a table, groups, grades), and the test that decides the laws of a table lane by lane;
 // then rooms, tight sets, and what exchanges of trays between positions do to them.
 // It holds theorems and no code of the planner: each function's contract is one theorem.
+#![tactic(auto)]
+
 ghost use Rattle.polymatroid.specs.Sets.{BitsAgree};
 ghost use Rattle.polymatroid.specs.Side.{TightSets};
 ghost use Rattle.polymatroid.specs.Room.{Uncrossing, Zeroing, MembersByRoom};

@@ -4,6 +4,8 @@
 // `fill_sums` adds up the trays of every set, which the others read. `fill_rooms` gives the rooms of all positions, and
 // `room_without` the room of one position with the trays of another put to 0; each is equal to the definition of a room. Sets go
 // by their code, lanes by their position on the side. These functions are for the planner, whose proof shows what they require.
+#![tactic(auto)]
+
 ghost use Rattle.std.specs.Prelude.{◌≡◌, ℕ, ◌+◌, ◌-◌, ◌^◌, ◌<◌, ◌≤◌, length, slice_index};
 ghost use Rattle.polymatroid.specs.Sets.{has};
 ghost use Rattle.polymatroid.specs.Side.{left, room};

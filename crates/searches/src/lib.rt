@@ -1,6 +1,8 @@
 // The search of a step: the first shortest augmenting path at the trays of a plan and how many trays it takes, or the cut that
 // shows that there is none. Rooms are measured, lanes are labelled level by level, the path is read back along the names; each
 // part stands in a crate of its own, and here they are put together. All memory is taken when the search is made.
+#![tactic(auto)]
+
 ghost use Rattle.std.specs.Prelude.{◌≡◌, ℕ, true, map, length, IfOk, vec_len};
 ghost use Rattle.rooms.specs.Rooms.{at};
 ghost use Rattle.tables.specs.Tables.{meaning_in};

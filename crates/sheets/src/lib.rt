@@ -2,6 +2,8 @@
 //
 // `apply_sheet` judges every record of a sheet from the front, and only then sets what the sheet says, in its order: a refused sheet
 // changes nothing. Its verdict and what it sets are those of the definition `sheet_judged`.
+#![tactic(auto)]
+
 ghost use Rattle.sheets.specs.Promise.{AcceptedSheetsEncode, SheetsAreAccepted};
 
 mod applying;

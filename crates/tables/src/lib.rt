@@ -1,6 +1,8 @@
 // A plant's answers, kept in tables. A plant is asked each question once: the ends of every lane, the lanes of every side and
 // the cap of every set of a side's lanes. The tables agree with the plant wherever a question is on the floor, so that whoever
 // has them never needs to ask the plant again.
+#![tactic(auto)]
+
 ghost use Rattle.std.specs.Prelude.{◌≡◌, ℕ, ◌+◌, ◌*◌, ◌^◌, ◌<◌, ◌≤◌, ◌++◌, length, IfOk, vec_len, OnOk, ◌≢◌, slice_index};
 ghost use Rattle.floor.specs.Numbers.{most_stations, most_on_side};
 ghost use Rattle.floor.specs.Floor.{leaving, entering, sides as all_sides, side as side_number, width as side_width, end_of, station_of, lane_at};

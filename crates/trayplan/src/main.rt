@@ -2,6 +2,8 @@
 // if there is one; the program prints a plan that carries the most trays from the stock to the despatch on that day, with the cut that
 // shows why no more can be carried, and ends with status 0. A refused file or sheet is told in one line, with status 1. A read or a
 // write that fails, and want of memory, are told in one line on standard error, with status 1.
+#![tactic(auto)]
+
 ghost use Rattle.std.specs.Prelude.{IfOk};
 ghost use Rattle.trayplan.specs.Answers.{DayAnswers};
 

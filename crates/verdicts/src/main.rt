@@ -1,5 +1,7 @@
 // Judges many small plant files, for trying the reader on all kinds of input. Each line of standard input is a file in hex
 // digits, an empty line the empty file; for each the program prints `accepted`, or the line of the refusal.
+#![tactic(auto)]
+
 ghost use Rattle.std.specs.Prelude.{◌≡◌, IfOk};
 ghost use Rattle.plantformat.specs.Judge.{judge};
 ghost use Rattle.verdicts.specs.Verdicts.{verdict_line};

@@ -1,6 +1,8 @@
 // Bytes written as hex digits, two small ones for each byte: how the programs that try many plant files are given them.
+#![tactic(auto)]
+
 ghost use Rattle.std.specs.Prelude.{◌≡◌, ℕ, List, IfOk, MatchOption};
-ghost use Rattle.hex.specs.Hex.{digit_value, Pair, Writes};
+ghost use Rattle.hexdigits.specs.Hex.{digit_value, Pair, Writes};
 
 use std::alloc::{AllocError, Global};
 

@@ -1,7 +1,7 @@
 -- A turn writes the byte of one pair more.
 use Rattle.std.proofs.Common.{◌≡◌, ◌+◌, length, vec_items, vec_len, arith, rules}
-use Rattle.hex.proofs.Pairs.{pairs_more}
-use Rattle.hex.proofs.bytes_of.Goals as goal
+use Rattle.hexdigits.proofs.Pairs.{pairs_more}
+use Rattle.hexdigits.proofs.bytes_of.Goals as goal
 
 pub loop-k-preserved : goal.loop-k-preserved
 loop-k-preserved c =

@@ -2,7 +2,7 @@
 use Rattle.std.proofs.Common.{◌≡◌, ℕ, ◌+◌, ◌-◌, ◌*◌, ◌<◌, ◌≤◌, List, [], ◌∷◌, ◌++◌, length, get_or, refl, arith, below_more}
 use native.Mathlib.Nat.{sub_self}
 use Rattle.std.proofs.lemmas.List.{get_or_append_left, get_or-append_right}
-use Rattle.hex.specs.Hex.{Pair}
+use Rattle.hexdigits.specs.Hex.{Pair}
 
 -- the pair at a place writes a byte
 abbrev pub At : List ℕ → ℕ → ℕ → Type 0

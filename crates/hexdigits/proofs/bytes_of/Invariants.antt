@@ -1,6 +1,6 @@
 use Rattle.std.proofs.Common.{◌≡◌, ℕ, ◌+◌, ◌*◌, ◌<◌, get_or, vec_items, vec_len}
-use Rattle.hex.specs.Hex.{Pair}
-use Rattle.hex.proofs.bytes_of.Given as goal
+use Rattle.hexdigits.specs.Hex.{Pair}
+use Rattle.hexdigits.proofs.bytes_of.Given as goal
 
 -- the pairs so far write the bytes so far
 abbrev pub invariant-loop-k : goal.invariant-loop-k

@@ -107,10 +107,10 @@ impl LabelTable {
 
     // What is scanned gives a lane its label, unless the lane has one.
     fn offer<S: Scan>(&mut self, scan: &S, from: Option<SignedLane>, to: usize, level: usize)
-        requires size { lanes_in self.old ≡ size scan.now }
-        requires from { Known (size scan.now) from }
-        requires to { to < size scan.now }
-        ensures marks { marks_in self.new ≡ slice_set (marks_in self.old) to (give (rule scan.now) (from_state from) level to (mark (marks_in self.old) to)) }
+        requires size { lanes_in self.old ≡ S.size scan.now }
+        requires from { Known (S.size scan.now) from }
+        requires to { to < S.size scan.now }
+        ensures marks { marks_in self.new ≡ slice_set (marks_in self.old) to (give (S.rule scan.now) (from_state from) level to (mark (marks_in self.old) to)) }
         ensures len { lanes_in self.new ≡ lanes_in self.old }
     {
         if self.labels[to].is_some() {
@@ -130,9 +130,9 @@ impl LabelTable {
 
     // What is scanned gives labels of a level to the lanes that have none.
     fn scan_from<S: Scan>(&mut self, scan: &S, from: Option<SignedLane>, level: usize)
-        requires size { lanes_in self.old ≡ size scan.now }
-        requires from { Known (size scan.now) from }
-        ensures marks { marks_in self.new ≡ listed (λ y. give (rule scan.now) (from_state from) level y (mark (marks_in self.old) y)) (size scan.now) 0 }
+        requires size { lanes_in self.old ≡ S.size scan.now }
+        requires from { Known (S.size scan.now) from }
+        ensures marks { marks_in self.new ≡ listed (λ y. give (S.rule scan.now) (from_state from) level y (mark (marks_in self.old) y)) (S.size scan.now) 0 }
         ensures len { lanes_in self.new ≡ lanes_in self.old }
     {
         for lane in 0..self.labels.len() {
@@ -157,10 +157,10 @@ impl LabelTable {
 
     // Scans a lane, if it is of the level.
     fn scan_lane<S: Scan>(&mut self, scan: &S, lane: usize, level: usize)
-        requires size { lanes_in self.old ≡ size scan.now }
-        requires lane { lane < size scan.now }
-        requires level { level ≤ size scan.now + 1 }
-        ensures marks { marks_in self.new ≡ lane_scanned (rule scan.now) (size scan.now) level lane (marks_in self.old) }
+        requires size { lanes_in self.old ≡ S.size scan.now }
+        requires lane { lane < S.size scan.now }
+        requires level { level ≤ S.size scan.now + 1 }
+        ensures marks { marks_in self.new ≡ lane_scanned (S.rule scan.now) (S.size scan.now) level lane (marks_in self.old) }
         ensures len { lanes_in self.new ≡ lanes_in self.old }
     {
         if let Some(sign) = self.sign_at(lane, level) {
@@ -170,10 +170,10 @@ impl LabelTable {
 
     // Scans the lanes of a level in their order.
     fn scan_level<S: Scan>(&mut self, scan: &S, level: usize)
-        requires size { lanes_in self.old ≡ size scan.now }
+        requires size { lanes_in self.old ≡ S.size scan.now }
         requires some { 0 < level }
-        requires level { level ≤ size scan.now + 1 }
-        ensures marks { marks_in self.new ≡ pass (rule scan.now) (size scan.now) level (marks_in self.old) }
+        requires level { level ≤ S.size scan.now + 1 }
+        ensures marks { marks_in self.new ≡ pass (S.rule scan.now) (S.size scan.now) level (marks_in self.old) }
         ensures len { lanes_in self.new ≡ lanes_in self.old }
     {
         for lane in 0..self.labels.len() {
@@ -183,9 +183,9 @@ impl LabelTable {
 
     // Whether a lane is of the level and ends a path.
     fn ends_at<S: Scan>(&self, scan: &S, lane: usize, level: usize) -> bool
-        requires size { lanes_in self.now ≡ size scan.now }
-        requires lane { lane < size scan.now }
-        ensures { result ≡ (is_at level (mark (marks_in self.now) lane) && rule scan.now (state_of lane (mark (marks_in self.now) lane)) (Pole true)) }
+        requires size { lanes_in self.now ≡ S.size scan.now }
+        requires lane { lane < S.size scan.now }
+        ensures { result ≡ (is_at level (mark (marks_in self.now) lane) && S.rule scan.now (state_of lane (mark (marks_in self.now) lane)) (Pole true)) }
     {
         let Some(sign) = self.sign_at(lane, level) else {
             return false;
@@ -195,8 +195,8 @@ impl LabelTable {
 
     // The lowest lane of the level that ends a path.
     fn ending_lane<S: Scan>(&self, scan: &S, level: usize) -> Option<usize>
-        requires { lanes_in self.now ≡ size scan.now }
-        ensures { result ≡ found (size scan.now) (ending_lane (rule scan.now) (size scan.now) level (marks_in self.now)) }
+        requires { lanes_in self.now ≡ S.size scan.now }
+        ensures { result ≡ found (S.size scan.now) (ending_lane (S.rule scan.now) (S.size scan.now) level (marks_in self.now)) }
     {
         for lane in 0..self.labels.len() {
             if self.ends_at(scan, lane, level) {
@@ -228,10 +228,10 @@ impl LabelTable {
 
     // Labels the lanes anew, level by level, and answers the level and the lane at which a path ends, if one does.
     pub fn label<S: Scan>(&mut self, scan: &S) -> Option<(usize, usize)>
-        requires { lanes_in self.old ≡ size scan.now }
-        ensures outcome { outcome_of (rule scan.now) (size scan.now) ≡ came_out result (marks_in self.new) }
+        requires { lanes_in self.old ≡ S.size scan.now }
+        ensures outcome { outcome_of (S.rule scan.now) (S.size scan.now) ≡ came_out result (marks_in self.new) }
         ensures falls { Falls (marks_in self.new) }
-        ensures last { EndedAt (size scan.now) result (marks_in self.new) }
+        ensures last { EndedAt (S.size scan.now) result (marks_in self.new) }
         ensures len { lanes_in self.new ≡ lanes_in self.old }
     {
         self.clear();

@@ -12,7 +12,7 @@ use std::alloc::{AllocError, Global};
 
 // A plant's floor, lanes and sides, with every cap.
 pub fn show_plant<P: Plant>(heap: Global, plant: &P) -> Result<Vec<u8>, AllocError>
-    ensures { IfOk result (λ v. v.items ≡ plant_lines (meaning plant.now)) }
+    ensures { IfOk result (λ v. v.items ≡ plant_lines (P.meaning plant.now)) }
 {
     let mut out = Vec::new(heap);
     add_floor(heap, &mut out, plant)?;
@@ -72,7 +72,7 @@ fn add_spaced(heap: Global, out: &mut Vec<u8>, n: usize) -> Result<(), AllocErro
 
 // The line of the floor.
 fn add_floor<P: Plant>(heap: Global, out: &mut Vec<u8>, plant: &P) -> Result<(), AllocError>
-    ensures { Adds (floor_line (meaning plant.now).floor) out.old.items out.new.items result }
+    ensures { Adds (floor_line (P.meaning plant.now).floor) out.old.items out.new.items result }
 {
     out.extend_from_slice(b"stations ")?;
     add_number(heap, out, plant.stations())?;
@@ -88,7 +88,7 @@ fn add_floor<P: Plant>(heap: Global, out: &mut Vec<u8>, plant: &P) -> Result<(),
 
 // A line for each lane.
 fn add_lanes<P: Plant>(heap: Global, out: &mut Vec<u8>, plant: &P) -> Result<(), AllocError>
-    ensures { Adds (lane_lines (meaning plant.now).floor) out.old.items out.new.items result }
+    ensures { Adds (lane_lines (P.meaning plant.now).floor) out.old.items out.new.items result }
 {
     for lane in 0..plant.lanes() {
         add_lane(heap, out, plant, lane)?;
@@ -103,8 +103,8 @@ fn add_lane<P: Plant>(
     plant: &P,
     lane: usize,
 ) -> Result<(), AllocError>
-    requires { lane < (meaning plant.now).floor.lanes }
-    ensures { Adds (lane_line (meaning plant.now).floor lane) out.old.items out.new.items result }
+    requires { lane < (P.meaning plant.now).floor.lanes }
+    ensures { Adds (lane_line (P.meaning plant.now).floor lane) out.old.items out.new.items result }
 {
     let (from, to) = plant.ends(lane).unwrap();
     out.extend_from_slice(b"lane ")?;
@@ -119,7 +119,7 @@ fn add_lane<P: Plant>(
 
 // A line for each side that has lanes.
 fn add_sides<P: Plant>(heap: Global, out: &mut Vec<u8>, plant: &P) -> Result<(), AllocError>
-    ensures { Adds (side_lines (meaning plant.now)) out.old.items out.new.items result }
+    ensures { Adds (side_lines (P.meaning plant.now)) out.old.items out.new.items result }
 {
     for side in 0..2 * plant.stations() {
         add_side(heap, out, plant, side)?;
@@ -134,8 +134,8 @@ fn add_side<P: Plant>(
     plant: &P,
     side: usize,
 ) -> Result<(), AllocError>
-    requires { side < sides (meaning plant.now).floor }
-    ensures { Adds (side_shown (meaning plant.now) side) out.old.items out.new.items result }
+    requires { side < sides (P.meaning plant.now).floor }
+    ensures { Adds (side_shown (P.meaning plant.now) side) out.old.items out.new.items result }
 {
     let width = plant.width(side).unwrap();
     if width == 0 {
@@ -159,9 +159,9 @@ fn add_lanes_on<P: Plant>(
     side: usize,
     width: usize,
 ) -> Result<(), AllocError>
-    requires on_floor { side < sides (meaning plant.now).floor }
-    requires all { width ≡ side_width (meaning plant.now).floor side }
-    ensures { Adds (lanes_on (meaning plant.now).floor side) out.old.items out.new.items result }
+    requires on_floor { side < sides (P.meaning plant.now).floor }
+    requires all { width ≡ side_width (P.meaning plant.now).floor side }
+    ensures { Adds (lanes_on (P.meaning plant.now).floor side) out.old.items out.new.items result }
 {
     for position in 0..width {
         add_spaced(heap, out, plant.lane_at(side, position).unwrap())?;
@@ -177,9 +177,9 @@ fn add_caps_on<P: Plant>(
     side: usize,
     width: usize,
 ) -> Result<(), AllocError>
-    requires on_floor { side < sides (meaning plant.now).floor }
-    requires all { width ≡ side_width (meaning plant.now).floor side }
-    ensures { Adds (caps_on (meaning plant.now) side) out.old.items out.new.items result }
+    requires on_floor { side < sides (P.meaning plant.now).floor }
+    requires all { width ≡ side_width (P.meaning plant.now).floor side }
+    ensures { Adds (caps_on (P.meaning plant.now) side) out.old.items out.new.items result }
 {
     let sets = 1usize << width;
     for set in 0..sets {

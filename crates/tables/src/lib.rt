@@ -20,7 +20,7 @@ pub use tables::{TableLane, TableSide, Tables};
 
 // All that a plant answers.
 pub fn tabulate<P: Plant>(heap: Global, plant: &P) -> Result<Tables, AllocError>
-    ensures { IfOk result (λ t. Agrees (meaning plant.now) (meaning_in t)) }
+    ensures { IfOk result (λ t. Agrees (P.meaning plant.now) (meaning_in t)) }
 {
     let stations = plant.stations();
     let mut caps = Vec::new(heap);
@@ -84,9 +84,9 @@ fn table_sides<P: Plant>(
     stations: usize,
     caps: &mut Vec<u32>,
 ) -> Result<Vec<TableSide>, AllocError>
-    requires { stations ≡ (meaning plant.now).floor.stations }
-    ensures told { IfOk result (λ v. SidesTold (meaning plant.now).floor (all_sides (meaning plant.now).floor) v.items) }
-    ensures capped { IfOk result (λ v. SidesCapped (meaning plant.now) (all_sides (meaning plant.now).floor) v.items caps.new.items) }
+    requires { stations ≡ (P.meaning plant.now).floor.stations }
+    ensures told { IfOk result (λ v. SidesTold (P.meaning plant.now).floor (all_sides (P.meaning plant.now).floor) v.items) }
+    ensures capped { IfOk result (λ v. SidesCapped (P.meaning plant.now) (all_sides (P.meaning plant.now).floor) v.items caps.new.items) }
 {
     let mut sides = Vec::new(heap);
     for side in 0..2 * stations {
@@ -98,10 +98,10 @@ fn table_sides<P: Plant>(
 
 // The row of a side, whose caps are added to `caps`.
 fn add_side<P: Plant>(plant: &P, side: usize, caps: &mut Vec<u32>) -> Result<TableSide, AllocError>
-    requires { side < all_sides (meaning plant.now).floor }
-    ensures lanes { IfOk result (λ row. SideTold (meaning plant.now).floor side row) }
+    requires { side < all_sides (P.meaning plant.now).floor }
+    ensures lanes { IfOk result (λ row. SideTold (P.meaning plant.now).floor side row) }
     ensures start { IfOk result (λ row. row.start ≡ length caps.old.items) }
-    ensures caps { OnOk result (caps.new.items ≡ caps.old.items ++ caps_on (meaning plant.now) side) }
+    ensures caps { OnOk result (caps.new.items ≡ caps.old.items ++ caps_on (P.meaning plant.now) side) }
 {
     let width = width_of(plant, side);
     let numbers = lane_numbers(plant, side, width);
@@ -116,8 +116,8 @@ fn add_side<P: Plant>(plant: &P, side: usize, caps: &mut Vec<u32>) -> Result<Tab
 
 // How many lanes a side has.
 fn width_of<P: Plant>(plant: &P, side: usize) -> usize
-    requires { side < all_sides (meaning plant.now).floor }
-    ensures all { result ≡ side_width (meaning plant.now).floor side }
+    requires { side < all_sides (P.meaning plant.now).floor }
+    ensures all { result ≡ side_width (P.meaning plant.now).floor side }
     ensures few { result ≤ most_on_side }
 {
     plant.width(side).unwrap()
@@ -125,10 +125,10 @@ fn width_of<P: Plant>(plant: &P, side: usize) -> usize
 
 // The numbers of the lanes of a side, by position.
 fn lane_numbers<P: Plant>(plant: &P, side: usize, width: usize) -> [usize; MOST_ON_SIDE]
-    requires on_floor { side < all_sides (meaning plant.now).floor }
-    requires all { width ≡ side_width (meaning plant.now).floor side }
+    requires on_floor { side < all_sides (P.meaning plant.now).floor }
+    requires all { width ≡ side_width (P.meaning plant.now).floor side }
     requires few { width ≤ most_on_side }
-    ensures { (p : ℕ) → p < width → slice_index result p ≡ lane_at (meaning plant.now).floor (end_of side) (station_of side) p }
+    ensures { (p : ℕ) → p < width → slice_index result p ≡ lane_at (P.meaning plant.now).floor (end_of side) (station_of side) p }
 {
     let mut numbers = [0; MOST_ON_SIDE];
     for position in 0..width {
@@ -144,10 +144,10 @@ fn add_caps<P: Plant>(
     width: usize,
     caps: &mut Vec<u32>,
 ) -> Result<(), AllocError>
-    requires on_floor { side < all_sides (meaning plant.now).floor }
-    requires all { width ≡ side_width (meaning plant.now).floor side }
+    requires on_floor { side < all_sides (P.meaning plant.now).floor }
+    requires all { width ≡ side_width (P.meaning plant.now).floor side }
     requires few { width ≤ most_on_side }
-    ensures { OnOk result (caps.new.items ≡ caps.old.items ++ caps_on (meaning plant.now) side) }
+    ensures { OnOk result (caps.new.items ≡ caps.old.items ++ caps_on (P.meaning plant.now) side) }
 {
     for set in 0..sets_of(width) {
         caps.push(cap_at(plant, side, set))?;
@@ -157,9 +157,9 @@ fn add_caps<P: Plant>(
 
 // The cap of a set of a side's lanes.
 fn cap_at<P: Plant>(plant: &P, side: usize, set: usize) -> u32
-    requires on_floor { side < all_sides (meaning plant.now).floor }
-    requires there { set < 2 ^ side_width (meaning plant.now).floor side }
-    ensures { result ≡ (meaning plant.now).cap (end_of side) (station_of side) set }
+    requires on_floor { side < all_sides (P.meaning plant.now).floor }
+    requires there { set < 2 ^ side_width (P.meaning plant.now).floor side }
+    ensures { result ≡ (P.meaning plant.now).cap (end_of side) (station_of side) set }
 {
     plant.cap(side, set).unwrap()
 }
@@ -170,8 +170,8 @@ fn table_lanes<P: Plant>(
     plant: &P,
     sides: &[TableSide],
 ) -> Result<Vec<TableLane>, AllocError>
-    requires { SidesTold (meaning plant.now).floor (all_sides (meaning plant.now).floor) sides.now }
-    ensures { IfOk result (λ v. LanesTold (meaning plant.now).floor (meaning plant.now).floor.lanes v.items) }
+    requires { SidesTold (P.meaning plant.now).floor (all_sides (P.meaning plant.now).floor) sides.now }
+    ensures { IfOk result (λ v. LanesTold (P.meaning plant.now).floor (P.meaning plant.now).floor.lanes v.items) }
 {
     let mut lanes = Vec::new(heap);
     for lane in 0..plant.lanes() {
@@ -182,9 +182,9 @@ fn table_lanes<P: Plant>(
 
 // The row of a lane: its position at a side is found among the side's lanes.
 fn table_lane<P: Plant>(plant: &P, sides: &[TableSide], lane: usize) -> TableLane
-    requires on_floor { lane < (meaning plant.now).floor.lanes }
-    requires told { SidesTold (meaning plant.now).floor (all_sides (meaning plant.now).floor) sides.now }
-    ensures { LaneTold (meaning plant.now).floor lane result }
+    requires on_floor { lane < (P.meaning plant.now).floor.lanes }
+    requires told { SidesTold (P.meaning plant.now).floor (all_sides (P.meaning plant.now).floor) sides.now }
+    ensures { LaneTold (P.meaning plant.now).floor lane result }
 {
     let (from, to) = lane_ends(plant, lane);
     let out_position = position_of(sides[2 * from], lane);
@@ -199,11 +199,11 @@ fn table_lane<P: Plant>(plant: &P, sides: &[TableSide], lane: usize) -> TableLan
 
 // The stations that a lane leaves and enters.
 fn lane_ends<P: Plant>(plant: &P, lane: usize) -> (usize, usize)
-    requires { lane < (meaning plant.now).floor.lanes }
-    ensures from { result.0 ≡ (meaning plant.now).floor.end leaving lane }
-    ensures to { result.1 ≡ (meaning plant.now).floor.end entering lane }
-    ensures on_floor { (result.0 < (meaning plant.now).floor.stations) × (result.1 < (meaning plant.now).floor.stations) }
-    ensures few { (meaning plant.now).floor.stations ≤ most_stations }
+    requires { lane < (P.meaning plant.now).floor.lanes }
+    ensures from { result.0 ≡ (P.meaning plant.now).floor.end leaving lane }
+    ensures to { result.1 ≡ (P.meaning plant.now).floor.end entering lane }
+    ensures on_floor { (result.0 < (P.meaning plant.now).floor.stations) × (result.1 < (P.meaning plant.now).floor.stations) }
+    ensures few { (P.meaning plant.now).floor.stations ≤ most_stations }
 {
     plant.ends(lane).unwrap()
 }

@@ -5,8 +5,8 @@ use Rattle.floor.proofs.Places.{station_below}
 use Rattle.listing.proofs.Each.{each_more}
 use Rattle.listing.proofs.add_caps_on.Goals as goal
 
-pub overflow-shl-sets : goal.overflow-shl-sets
-overflow-shl-sets g c =
+pub overflow_shl-sets : goal.overflow_shl-sets
+overflow_shl-sets g c =
     let on = station_below _ _ c.requires.on_floor in
     let narrow = (g.P.Plant.lawful c.args.plant.now).rules.narrow (end_of c.args.side) (station_of c.args.side) on in
     omega (arith, c.requires.all)

@@ -2,14 +2,14 @@ use Rattle.std.proofs.Common.{arith}
 use Rattle.placing.proofs.Crowds.{stations_few, crowded_is, full_is, roomy_is}
 use Rattle.placing.proofs.is_crowded.Goals as goal
 
-pub overflow-mul-lane : goal.overflow-mul-lane
-overflow-mul-lane c = omega (arith, stations_few c.args.plant.now)
+pub overflow_mul-lane : goal.overflow_mul-lane
+overflow_mul-lane c = omega (arith, stations_few c.args.plant.now)
 
-pub overflow-mul-lane-2 : goal.overflow-mul-lane-2
-overflow-mul-lane-2 c = omega (arith, stations_few c.args.plant.now)
+pub overflow_mul-lane-2 : goal.overflow_mul-lane-2
+overflow_mul-lane-2 c = omega (arith, stations_few c.args.plant.now)
 
-pub overflow-add-lane : goal.overflow-add-lane
-overflow-add-lane c = omega (arith, stations_few c.args.plant.now)
+pub overflow_add-lane : goal.overflow_add-lane
+overflow_add-lane c = omega (arith, stations_few c.args.plant.now)
 
 pub returns-then-len-ge-MOST_LANES : goal.returns-then-len-ge-MOST_LANES
 returns-then-len-ge-MOST_LANES c =

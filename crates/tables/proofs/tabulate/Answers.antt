@@ -8,8 +8,8 @@ use Rattle.tables.specs.Parts.{table_floor, table_caps}
 use Rattle.tables.proofs.Holding.{all_held}
 use Rattle.tables.proofs.tabulate.Goals as goal
 
-pub invariant-of-result : goal.invariant-of-result
-invariant-of-result g c =
+pub invariant_of-result : goal.invariant_of-result
+invariant_of-result g c =
     let plant = c.args.plant.now in
     let lanes = c.in_ok-lanes.lanes in
     let sides = c.in_ok-sides.sides in

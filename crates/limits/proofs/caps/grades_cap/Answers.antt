@@ -14,8 +14,8 @@ loop-position-init c =
 pub nth_long-sum-requires : goal.nth_long-sum-requires
 nth_long-sum-requires c = omega (arith, length_longs c.args.steps.now)
 
-pub overflow-add-sum : goal.overflow-add-sum
-overflow-add-sum c = omega (arith, at_most_at top_lane (longs c.args.steps.now) c.requires.low c.loop-position.members (omega arith))
+pub overflow_add-sum : goal.overflow_add-sum
+overflow_add-sum c = omega (arith, at_most_at top_lane (longs c.args.steps.now) c.requires.low c.loop-position.members (omega arith))
 
 pub loop-position-preserved : goal.loop-position-preserved
 loop-position-preserved c =
@@ -26,12 +26,12 @@ loop-position-preserved c =
           let more = size_with c.loop-position.position c.args.set (sym w.if-contains.ensures) in
           let low = at_most_at top_lane (longs c.args.steps.now) c.requires.low m (omega arith) in
           let sum : c.if-contains.sum ≡ firsts grade c.if-contains.members =
-          omega (arith, w.sum-is, w.nth_long-sum.ensures, ap (firsts grade) w.members_is, firsts_more grade m) in
-          (omega (arith, w.members_is), omega (arith, w.members_is), sum, omega (arith, w.sum-is, w.members_is))
+          omega (arith, w.sum-is, w.nth_long-sum.ensures, ap (firsts grade) w.members-is, firsts_more grade m) in
+          (omega (arith, w.members-is), omega (arith, w.members-is), sum, omega (arith, w.sum-is, w.members-is))
       | else-contains w ↦
           let same = size_without c.loop-position.position c.args.set (sym w.if-contains.ensures) in
-          let sum : c.if-contains.sum ≡ firsts grade c.if-contains.members = omega (arith, w.sum-is, ap (firsts grade) w.members_is) in
-          (omega (arith, w.members_is), omega (arith, w.members_is), sum, omega (arith, w.sum-is, w.members_is))
+          let sum : c.if-contains.sum ≡ firsts grade c.if-contains.members = omega (arith, w.sum-is, ap (firsts grade) w.members-is) in
+          (omega (arith, w.members-is), omega (arith, w.members-is), sum, omega (arith, w.sum-is, w.members-is))
     ]
 
 pub returns : goal.returns

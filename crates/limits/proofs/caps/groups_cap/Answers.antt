@@ -19,8 +19,8 @@ loop-group-init c =
 pub bounds-sums-parent_of : goal.bounds-sums-parent_of
 bounds-sums-parent_of c = omega (arith, parent_lower c.requires.groups (c.loop-group.group - 1) (omega arith) (omega arith))
 
-pub overflow-add-sums : goal.overflow-add-sums
-overflow-add-sums c =
+pub overflow_add-sums : goal.overflow_add-sums
+overflow_add-sums c =
     let G : Groups = groups_in c.args.count c.args.numbers.now c.args.own.now in
     let k = length c.args.own.now in
     let n = length_parents c.args.numbers.now c.args.count in

@@ -15,8 +15,8 @@ loop-position-init c =
 pub bounds-sums-group_of : goal.bounds-sums-group_of
 bounds-sums-group_of c = omega (arith, member_on c.requires.groups c.loop-position.position c.loop-position-test.true)
 
-pub overflow-add-sums : goal.overflow-add-sums
-overflow-add-sums c =
+pub overflow_add-sums : goal.overflow_add-sums
+overflow_add-sums c =
     let G : Groups = groups_in c.args.count c.args.numbers.now c.args.own.now in
     let p = c.loop-position.position in
     let j = c.group_of.result in

@@ -20,8 +20,8 @@ nth_long-requires c =
     let with_q = joined_below c.requires.0 c.requires.2 c.requires.4 c.with_position-with_q.ensures in
     omega (arith, joined_below c.requires.0 with_q (omega arith) c.with_position.ensures)
 
-pub overflow-add-together : goal.overflow-add-together
-overflow-add-together c =
+pub overflow_add-together : goal.overflow_add-together
+overflow_add-together c =
     let with_q = joined_below c.requires.0 c.requires.2 c.requires.4 c.with_position-with_q.ensures in
     let with_both = joined_below c.requires.0 with_q (omega arith) c.with_position.ensures in
     omega (arith, table_low c.requires.1 c.with_position.result with_both, table_low c.requires.1 c.args.set c.requires.2)
@@ -32,8 +32,8 @@ nth_long-requires-3 c = omega (arith, joined_below c.requires.0 c.requires.2 (om
 pub nth_long-requires-4 : goal.nth_long-requires-4
 nth_long-requires-4 c = omega (arith, joined_below c.requires.0 c.requires.2 c.requires.4 c.with_position-with_q.ensures)
 
-pub overflow-add-apart : goal.overflow-add-apart
-overflow-add-apart c =
+pub overflow_add-apart : goal.overflow_add-apart
+overflow_add-apart c =
     let with_q = joined_below c.requires.0 c.requires.2 c.requires.4 c.with_position-with_q.ensures in
     let with_p = joined_below c.requires.0 c.requires.2 (omega arith) c.with_position-2.ensures in
     omega (arith, table_low c.requires.1 c.with_position-with_q.result with_q, table_low c.requires.1 c.with_position-2.result with_p)

@@ -5,14 +5,14 @@ use Rattle.tables.specs.declared.tables.TableLane.{TableLane}
 use Rattle.measures.proofs.Rows.{lane_is, to_below, from_below}
 use Rattle.measures.proofs.lanes.side_of.Goals as goal
 
-pub overflow-mul-result : goal.overflow-mul-result
-overflow-mul-result c = omega (arith, to_below c.args.tables.now c.args.lane c.index-row.result.now c.requires c.index-row.ensures, c.args.tables.now.few_stations)
+pub overflow_mul-result : goal.overflow_mul-result
+overflow_mul-result c = omega (arith, to_below c.args.tables.now c.args.lane c.index-row.result.now c.requires c.index-row.ensures, c.args.tables.now.few_stations)
 
-pub overflow-add-result : goal.overflow-add-result
-overflow-add-result c = omega (arith, to_below c.args.tables.now c.args.lane c.index-row.result.now c.requires c.index-row.ensures, c.args.tables.now.few_stations)
+pub overflow_add-result : goal.overflow_add-result
+overflow_add-result c = omega (arith, to_below c.args.tables.now c.args.lane c.index-row.result.now c.requires c.index-row.ensures, c.args.tables.now.few_stations)
 
-pub overflow-mul-result-else-entering : goal.overflow-mul-result-else-entering
-overflow-mul-result-else-entering c =
+pub overflow_mul-result-else-entering : goal.overflow_mul-result-else-entering
+overflow_mul-result-else-entering c =
     omega (arith, from_below c.args.tables.now c.args.lane c.index-row.result.now c.requires c.index-row.ensures, c.args.tables.now.few_stations)
 
 pub returns-then-entering : goal.returns-then-entering

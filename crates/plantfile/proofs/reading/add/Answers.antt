@@ -2,8 +2,8 @@ use Rattle.std.proofs.Common.{vec_items}
 use Rattle.plantfile.proofs.Steps.{kept_keeps, pushed_grown}
 use Rattle.plantfile.proofs.reading.add.Goals as goal
 
-pub invariant-of-plant-in-Limit : goal.invariant-of-plant-in-Limit
-invariant-of-plant-in-Limit c = (
+pub invariant_of-plant-in-Limit : goal.invariant_of-plant-in-Limit
+invariant_of-plant-in-Limit c = (
   kept_keeps c.args.plant.now c.in-Limit.limit c.args.record c.in-Limit.is c.keep_limit.result (vec_items c.keep_limit.new.limits)
       c.keep_limit.ensures c.requires,
   tt,

@@ -5,9 +5,9 @@ use Rattle.plantformat.proofs.Keeping.{kept_head, kept_from}
 use Rattle.plantfile.proofs.Whole.{fresh_keeps}
 use Rattle.plantfile.proofs.reading.empty.Goals as goal
 
-pub invariant-of-result : goal.invariant-of-result
+pub invariant_of-result : goal.invariant_of-result
 unfolding head_keeps
-invariant-of-result c =
+invariant_of-result c =
     let h : Head = record { stations = 2; stock = 0; despatch = 1 } in (
       fresh_keeps h (vec_items c.new.result) (vec_items c.new-2.result) c.new.ensures.items c.new-2.ensures.items
           (kept_from h [] [] (kept_head h refl)),

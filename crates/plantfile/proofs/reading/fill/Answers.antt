@@ -5,8 +5,8 @@ use Rattle.answers.specs.Content.{content}
 use Rattle.plantfile.proofs.Whole.{opened_keeps, judged_on, fresh_draft, fresh_keeps, stops, grown_keeps, rest_less, read_more}
 use Rattle.plantfile.proofs.reading.fill.Goals as goal
 
-pub invariant-of-plant : goal.invariant-of-plant
-invariant-of-plant c =
+pub invariant_of-plant : goal.invariant_of-plant
+invariant_of-plant c =
     let first = c.in_ok-first.first in (
       fresh_keeps first.head (vec_items c.args.plant.now.lanes) (vec_items c.args.plant.now.limits) c.requires.lanes c.requires.limits
           (opened_keeps c.args.file.now first.head first.rest.now (sym c.in_ok-first.ensures)).0,

@@ -31,11 +31,11 @@ room c =
 pub bounds-on-on : goal.bounds-on-on
 bounds-on-on c = room c
 
-pub offset-bounds-on-on : goal.offset-bounds-on-on
-offset-bounds-on-on c = omega (arith, room c)
+pub offset_bounds-on-on : goal.offset_bounds-on-on
+offset_bounds-on-on c = omega (arith, room c)
 
-pub overflow-add-on : goal.overflow-add-on
-overflow-add-on c = omega (arith, room c)
+pub overflow_add-on : goal.overflow_add-on
+overflow_add-on c = omega (arith, room c)
 
 pub loop-number-preserved : goal.loop-number-preserved
 loop-number-preserved c =

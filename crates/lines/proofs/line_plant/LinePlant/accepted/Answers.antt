@@ -3,8 +3,8 @@ use Rattle.linefloor.specs.Line.{line_meaning, grades_low, grades_fall}
 use Rattle.lines.proofs.Verdicts.{accepted_kept, same_grade}
 use Rattle.lines.proofs.line_plant.LinePlant.accepted.Goals as goal
 
-pub invariant-of-result : goal.invariant-of-result
-invariant-of-result c =
+pub invariant_of-result : goal.invariant_of-result
+invariant_of-result c =
     let d = c.args.between in
     let k = accepted_kept c.args.stations d c.args.grades.now c.requires in
     let same = same_grade c.args.grades.now c.filled_up.result c.filled_up.ensures in

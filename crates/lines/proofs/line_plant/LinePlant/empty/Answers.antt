@@ -4,9 +4,9 @@ use Rattle.linefloor.specs.Line.{line_meaning, grades_low, grades_fall}
 use Rattle.lines.proofs.Verdicts.{no_grades}
 use Rattle.lines.proofs.line_plant.LinePlant.empty.Goals as goal
 
-pub invariant-of-result : goal.invariant-of-result
+pub invariant_of-result : goal.invariant_of-result
 unfolding every grades_low grades_fall
-invariant-of-result c = (omega arith, (omega arith, (omega arith, (omega arith, (refl, (refl, tt))))))
+invariant_of-result c = (omega arith, (omega arith, (omega arith, (omega arith, (refl, (refl, tt))))))
 
 pub returns : goal.returns
 returns c = ap (line_meaning 2 0) (no_grades 8)

@@ -9,8 +9,8 @@ pub loop-position-init : goal.loop-position-init
 loop-position-init c =
     (sym (size_none c.args.set), omega arith, sym (firsts_none (λ j. get_or c.args.self.now.grades j 0)), omega arith)
 
-pub overflow-add-sum : goal.overflow-add-sum
-overflow-add-sum c =
+pub overflow_add-sum : goal.overflow_add-sum
+overflow_add-sum c =
     let p = c.args.self.now in
     omega (arith, low_at p.between (λ j. get_or p.grades j 0) p.low c.loop-position.members (omega arith))
 

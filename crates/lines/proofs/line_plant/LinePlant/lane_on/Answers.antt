@@ -3,15 +3,15 @@ use Rattle.std.proofs.lemmas.Bool.{cases_lt}
 use Rattle.lines.proofs.Sides.{some_lanes, lane_is}
 use Rattle.lines.proofs.line_plant.LinePlant.lane_on.Goals as goal
 
-pub overflow-sub-result : goal.overflow-sub-result
-overflow-sub-result c =
+pub overflow_sub-result : goal.overflow_sub-result
+overflow_sub-result c =
     let p = c.args.self.now in
     let s = c.args.side in
     let t = some_lanes p.stations p.between s c.args.position c.requires.there c.requires.side in
     elim (cases_lt (s / 2) (s % 2)) [ inl l ↦ absurd (t.0 (omega arith)) | inr l ↦ l ]
 
-pub overflow-add-result : goal.overflow-add-result
-overflow-add-result c =
+pub overflow_add-result : goal.overflow_add-result
+overflow_add-result c =
     let p = c.args.self.now in
     let s = c.args.side in
     let t = some_lanes p.stations p.between s c.args.position c.requires.there c.requires.side in

@@ -5,8 +5,8 @@ use Rattle.piles.specs.Settings.{can_close}
 use Rattle.piles.proofs.Asked.{was_passed, narrow}
 use Rattle.piles.proofs.closing.Closing.close.Goals as goal
 
-pub overflow-shl-self : goal.overflow-shl-self
-overflow-shl-self g c =
+pub overflow_shl-self : goal.overflow_shl-self
+overflow_shl-self g c =
     let M = g.P.Plant.meaning c.args.self.now.below in
     let s = c.args.side in
     let p = c.args.position in

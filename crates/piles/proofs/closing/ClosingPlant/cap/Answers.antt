@@ -6,8 +6,8 @@ use Rattle.piles.proofs.Asked.{was_on, was_value, narrow}
 use Rattle.piles.proofs.Caps.{closed_cap}
 use Rattle.piles.proofs.closing.ClosingPlant.cap.Goals as goal
 
-pub overflow-shl-width : goal.overflow-shl-width
-overflow-shl-width g c =
+pub overflow_shl-width : goal.overflow_shl-width
+overflow_shl-width g c =
     let M = g.P.Plant.meaning c.args.self.now.below in
     let s = c.args.side in
     let k = width M.floor s in

@@ -7,8 +7,8 @@ use Rattle.calls.proofs.Loads.{no_trays_are_plan, plan_passes}
 use Rattle.tables.specs.Tables.{meaning_in}
 use Rattle.planner.proofs.planner.Planner.open.Goals as goal
 
-pub invariant-of-result : goal.invariant-of-result
-invariant-of-result c =
+pub invariant_of-result : goal.invariant_of-result
+invariant_of-result c =
     let t = c.args.tables in
     let M = meaning_in t in
     let none : vec_items c.in_ok-trays.trays ≡ replicate (length (vec_items t.lanes)) 0 = search rules in

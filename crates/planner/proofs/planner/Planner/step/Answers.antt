@@ -22,8 +22,8 @@ move_trays-requires c =
     let found = subst (λ zs. Found M (at zs) (Some n) s) c.as_slice.ensures.value c.in-Some.ensures.found in
     subst⁻¹ (λ path. Movable path n xs) c.as_slice-2.ensures.value (movable M (tables_lawful p.tables) xs all p.plan s n found)
 
-pub invariant-of-self-3 : goal.invariant-of-self-3
-invariant-of-self-3 c =
+pub invariant_of-self-3 : goal.invariant_of-self-3
+invariant_of-self-3 c =
     let p = c.args.self.now in
     let M = meaning_in p.tables in
     let xs = vec_items p.trays in

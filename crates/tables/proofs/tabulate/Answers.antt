@@ -23,61 +23,26 @@ invariant_of-result g c =
     let laws = held.laws.laws in
     let k = count (table_floor c.stations-stations.result c.stock.result c.despatch.result (vec_items lanes)) in
     let cap_of = table_caps (vec_items sides) (vec_items caps) in
-    let on : (e : ℕ) → e < vec_len lanes → e < length (vec_items lanes) = λ e h. omega (arith, lanes.ok.0) in (
-      rules.two_stations,
-      (
-        rules.few_stations,
-        (
-          omega (arith, rules.few_lanes, lanes.ok.0),
-          (
-            rules.pole_on leaving,
-            (
-              rules.pole_on entering,
-              (
-                λ e h. rules.end_on leaving e (on e h),
-                (
-                  λ e h. rules.end_on entering e (on e h),
-                  (
-                    omega (arith, sides.ok.0, held.all),
-                    (
-                      held.widths,
-                      (
-                        held.narrow,
-                        (
-                          held.placed,
-                          (
-                            λ e h. held.out e (on e h),
-                            (
-                              λ e h. held.into e (on e h),
-                              (
-                                rules.poles_differ,
-                                (
-                                  λ e h. rules.ends_differ leaving e (on e h),
-                                  (
-                                    λ e h. rules.poles_clear leaving e (on e h),
-                                    (
-                                      λ e h. rules.poles_clear entering e (on e h),
-                                      (
-                                        λ d i h. (named (k d i) (cap_of d i)).passes (laws d i h).0,
-                                        (
-                                          λ d i h. every_from (2 ^ k d i) (λ X. leb (cap_of d i X) top_cap) (λ X l. le-leb (cap_of d i X) top_cap ((laws d i h).1 X l)),
-                                          (λ s h. omega (arith, caps.ok.0, held.bounds s h), tt),
-                                        ),
-                                      ),
-                                    ),
-                                  ),
-                                ),
-                              ),
-                            ),
-                          ),
-                        ),
-                      ),
-                    ),
-                  ),
-                ),
-              ),
-            ),
-          ),
-        ),
-      ),
-    )
+    let on : (e : ℕ) → e < vec_len lanes → e < length (vec_items lanes) = λ e h. omega (arith, lanes.ok.0) in
+    record {
+      two_stations = rules.two_stations;
+      few_stations = rules.few_stations;
+      few_lanes = omega (arith, rules.few_lanes, lanes.ok.0);
+      stock_on = rules.pole_on leaving;
+      despatch_on = rules.pole_on entering;
+      from_on = λ e h. rules.end_on leaving e (on e h);
+      to_on = λ e h. rules.end_on entering e (on e h);
+      all_sides = omega (arith, sides.ok.0, held.all);
+      widths = held.widths;
+      narrow = held.narrow;
+      placed = held.placed;
+      out_placed = λ e h. held.out e (on e h);
+      in_placed = λ e h. held.into e (on e h);
+      poles_differ = rules.poles_differ;
+      ends_differ = λ e h. rules.ends_differ leaving e (on e h);
+      stock_clear = λ e h. rules.poles_clear leaving e (on e h);
+      despatch_clear = λ e h. rules.poles_clear entering e (on e h);
+      laws = λ d i h. (named (k d i) (cap_of d i)).passes (laws d i h).0;
+      capped = λ d i h. every_from (2 ^ k d i) (λ X. leb (cap_of d i X) top_cap) (λ X l. le-leb (cap_of d i X) top_cap ((laws d i h).1 X l));
+      held = λ s h. omega (arith, caps.ok.0, held.bounds s h);
+    }

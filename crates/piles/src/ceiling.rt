@@ -29,9 +29,9 @@ impl<P: Plant> Ceiling<P> {
 
     // Sets the ceiling of a side, in place of the one that it had.
     pub fn set(&mut self, side: usize, ceiling: u32) -> Result<(), Refusal>
-        ensures judged { result ≡ ceiling_judged (meaning self.old.below).floor side ceiling }
+        ensures judged { result ≡ ceiling_judged (P.meaning self.old.below).floor side ceiling }
         ensures below { self.new.below ≡ self.old.below }
-        ensures ceilings { self.new.ceilings ≡ ceilings_after (meaning self.old.below).floor side ceiling self.old.ceilings }
+        ensures ceilings { self.new.ceilings ≡ ceilings_after (P.meaning self.old.below).floor side ceiling self.old.ceilings }
     {
         check_ceiling(&self.below, side, ceiling)?;
         self.ceilings[side] = ceiling;

@@ -28,9 +28,9 @@ impl<P: Plant> Closing<P> {
 
     // Closes a position of a side. One that is closed stays so.
     pub fn close(&mut self, side: usize, position: usize) -> Result<(), Refusal>
-        ensures judged { result ≡ close_judged (meaning self.old.below).floor side position }
+        ensures judged { result ≡ close_judged (P.meaning self.old.below).floor side position }
         ensures below { self.new.below ≡ self.old.below }
-        ensures closed { self.new.closed ≡ closed_after (meaning self.old.below).floor side position self.old.closed }
+        ensures closed { self.new.closed ≡ closed_after (P.meaning self.old.below).floor side position self.old.closed }
     {
         check_closing(&self.below, side, position)?;
         self.closed[side] |= 1 << position;

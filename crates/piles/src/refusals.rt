@@ -21,7 +21,7 @@ fn refused(reason: Reason) -> Refusal
 
 // Whether a position of a side may be closed: it has to be on the floor.
 pub fn check_closing<P: Plant>(plant: &P, side: usize, position: usize) -> Result<(), Refusal>
-    ensures { result ≡ close_judged (meaning plant.now).floor side position }
+    ensures { result ≡ close_judged (P.meaning plant.now).floor side position }
 {
     if plant.lane_at(side, position).is_err() {
         return Err(refused(Reason::OffFloor));
@@ -31,7 +31,7 @@ pub fn check_closing<P: Plant>(plant: &P, side: usize, position: usize) -> Resul
 
 // Whether a side may have a ceiling: the side has to be on the floor, and the ceiling no higher than every cap.
 pub fn check_ceiling<P: Plant>(plant: &P, side: usize, ceiling: u32) -> Result<(), Refusal>
-    ensures { result ≡ ceiling_judged (meaning plant.now).floor side ceiling }
+    ensures { result ≡ ceiling_judged (P.meaning plant.now).floor side ceiling }
 {
     if plant.width(side).is_err() {
         return Err(refused(Reason::OffFloor));

@@ -24,12 +24,12 @@ loop-position-preserved c =
           let more = size_with c.loop-position.position c.args.set (sym w.if-contains.ensures) in
           let low = low_at p.between grade p.low m (omega arith) in
           let sum : c.if-contains.sum ≡ firsts grade c.if-contains.members =
-          omega (arith, w.sum-is, ap (firsts grade) w.members_is, firsts_more grade m) in
-          (omega (arith, w.members_is), omega (arith, w.members_is), sum, omega (arith, w.sum-is, w.members_is))
+          omega (arith, w.sum-is, ap (firsts grade) w.members-is, firsts_more grade m) in
+          (omega (arith, w.members-is), omega (arith, w.members-is), sum, omega (arith, w.sum-is, w.members-is))
       | else-contains w ↦
           let same = size_without c.loop-position.position c.args.set (sym w.if-contains.ensures) in
-          let sum : c.if-contains.sum ≡ firsts grade c.if-contains.members = omega (arith, w.sum-is, ap (firsts grade) w.members_is) in
-          (omega (arith, w.members_is), omega (arith, w.members_is), sum, omega (arith, w.sum-is, w.members_is))
+          let sum : c.if-contains.sum ≡ firsts grade c.if-contains.members = omega (arith, w.sum-is, ap (firsts grade) w.members-is) in
+          (omega (arith, w.members-is), omega (arith, w.members-is), sum, omega (arith, w.sum-is, w.members-is))
     ]
 
 pub returns : goal.returns

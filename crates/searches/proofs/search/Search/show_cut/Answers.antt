@@ -24,7 +24,7 @@ returns c =
     let stations_are = refilled_is stations.len ss (drop (length ss) stations.items) stations_len in
     let near : (f : ℕ → ℕ) → Ready (meaning_in t) f c.args.self.now → (i : ℕ) → i < t.stations
     → get_or ss i 0 ≡ near_byte (meaning_in t) f marks i =
-    λ f ready. c.fill_near.ensures.each f (subst⁻¹ (EnteringRooms (meaning_in t) f) c.as_slice.ensures.value ready.decreases) in
+    λ f ready. c.fill_near.ensures.each f (subst⁻¹ (EnteringRooms (meaning_in t) f) c.as_slice.ensures.value ready.measured) in
     let sides : (e : ℕ) → e < (meaning_in t).floor.lanes → get_or ls e 0 ≡ cut_byte (meaning_in t) (byte_near ss) marks e =
     λ e l.
     c.fill_sides.ensures.each e (omega (arith, t.lanes.ok.0))

@@ -44,7 +44,7 @@ pub enum Answer {
 impl<P: Plant> Plan<P> {
     // Reads the trays into a buffer.
     fn read_trays(&self, buffer: Vec<u32>) -> Answer
-        ensures { (e : Event) × Recorded (Call.Trays buffer) result e × Meets meaning self.now e self.now }
+        ensures { (e : Event) × Recorded (Call.Trays buffer) result e × Meets P.meaning self.now e self.now }
     {
         let mut out = buffer;
         let read = self.trays(out.as_mut_slice());
@@ -53,7 +53,7 @@ impl<P: Plant> Plan<P> {
 
     // Reads the cut into buffers.
     fn read_cut(&self, for_lanes: Vec<u8>, for_stations: Vec<u8>) -> Answer
-        ensures { (e : Event) × Recorded (Call.Cut for_lanes for_stations) result e × Meets meaning self.now e self.now }
+        ensures { (e : Event) × Recorded (Call.Cut for_lanes for_stations) result e × Meets P.meaning self.now e self.now }
     {
         let mut lanes = for_lanes;
         let mut stations = for_stations;
@@ -63,7 +63,7 @@ impl<P: Plant> Plan<P> {
 
     // A step or a run; a finished plan is not searched again.
     fn advance(&mut self, steps: &Steps) -> Answer
-        ensures { (e : Event) × Recorded (asked_for steps.now) result e × Meets meaning self.old e self.new }
+        ensures { (e : Event) × Recorded (asked_for steps.now) result e × Meets P.meaning self.old e self.new }
     {
         match (self.planner.is_finished(), steps) {
             (true, Steps::One) => Answer::Stepped(None),
@@ -74,7 +74,7 @@ impl<P: Plant> Plan<P> {
 
     // Any call.
     pub fn call(&mut self, call: Call) -> Answer
-        ensures { (e : Event) × Recorded call result e × Meets meaning self.old e self.new }
+        ensures { (e : Event) × Recorded call result e × Meets P.meaning self.old e self.new }
     {
         match call {
             Call::Load(given) => Answer::Loaded(self.load(given.as_slice())),
@@ -89,7 +89,7 @@ impl<P: Plant> Plan<P> {
 
     // The calls, one after another, and the answers to them.
     pub fn replay(&mut self, heap: Global, calls: Vec<Call>) -> Result<Vec<Answer>, AllocError>
-        ensures told { IfOk result (λ told. Replays meaning self.old calls.items told.items self.new) }
+        ensures told { IfOk result (λ told. Replays P.meaning self.old calls.items told.items self.new) }
         ensures same { OnErr result (self.new ≡ self.old) }
     {
         let mut told = Vec::with_capacity(heap, calls.len())?;
@@ -107,7 +107,7 @@ pub fn answers<P: Plant + Drop>(
     plant: P,
     calls: Vec<Call>,
 ) -> Result<Vec<Answer>, AllocError>
-    ensures { IfOk result (λ told. Answered (meaning plant) calls.items told.items) }
+    ensures { IfOk result (λ told. Answered (P.meaning plant) calls.items told.items) }
 {
     let mut plan = Plan::open(heap, plant)?;
     plan.replay(heap, calls)

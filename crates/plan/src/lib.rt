@@ -23,7 +23,7 @@ pub use plan::Plan;
 
 // A plan with no trays, on the tables of the plant.
 fn plan_on<P: Plant>(heap: Global, plant: &P) -> Result<Planner, AllocError>
-    ensures { IfOk result (λ p. Planned (meaning plant.now) p) }
+    ensures { IfOk result (λ p. Planned (P.meaning plant.now) p) }
 {
     let tables = tabulate(heap, plant)?;
     Planner::open(heap, tables)
@@ -32,7 +32,7 @@ fn plan_on<P: Plant>(heap: Global, plant: &P) -> Result<Planner, AllocError>
 impl<P: Plant> Plan<P> {
     // A plan with no trays above the plant, or the plant again where there is no memory for one.
     pub fn open(heap: Global, plant: P) -> Result<Plan<P>, AllocFailed<P>>
-        ensures opens { IfOk result (λ p. Opens meaning plant p) }
+        ensures opens { IfOk result (λ p. Opens P.meaning plant p) }
         ensures refused { IfErr result (λ x. x.value ≡ plant) }
     {
         match plan_on(heap, &plant) {
@@ -43,49 +43,49 @@ impl<P: Plant> Plan<P> {
 
     // Replaces the trays by those given, one number for each lane, and forgets the moves and the finished mark.
     pub fn load(&mut self, given: &[u32]) -> Result<(), Unfit>
-        ensures { Meets meaning self.old (loaded given.now result) self.new }
+        ensures { Meets P.meaning self.old (loaded given.now result) self.new }
     {
         self.planner.load(given)
     }
 
     // Makes one move and answers its amount and how many lanes it has, or finds the plan finished.
     pub fn step(&mut self) -> Option<(u32, usize)>
-        ensures { Meets meaning self.old (stepped result) self.new }
+        ensures { Meets P.meaning self.old (stepped result) self.new }
     {
         self.planner.step()
     }
 
     // Makes as many steps as the budget has, but stops after one that finds the plan finished.
     pub fn run(&mut self, budget: u64) -> Ran
-        ensures { Meets meaning self.old (ran budget result.moves result.finished) self.new }
+        ensures { Meets P.meaning self.old (ran budget result.moves result.finished) self.new }
     {
         self.planner.run(budget)
     }
 
     // How many trays leave the stock.
     pub fn total(&self) -> u64
-        ensures { Meets meaning self.now (told_total result) self.now }
+        ensures { Meets P.meaning self.now (told_total result) self.now }
     {
         self.planner.total()
     }
 
     // How many moves were made since the opening or the last accepted load.
     pub fn moves(&self) -> u64
-        ensures { Meets meaning self.now (told_moves result) self.now }
+        ensures { Meets P.meaning self.now (told_moves result) self.now }
     {
         self.planner.moves()
     }
 
     // Writes the trays of each lane into the buffer.
     pub fn trays(&self, out: &mut [u32]) -> Result<(), Unfit>
-        ensures { Meets meaning self.now (told_trays out.old result out.new) self.now }
+        ensures { Meets P.meaning self.now (told_trays out.old result out.new) self.now }
     {
         self.planner.trays(out)
     }
 
     // Writes the cut of a finished plan into the buffers: for each lane `U`, `L` or `-`, for each station 1 near or 0 far.
     pub fn cut(&self, lanes: &mut [u8], stations: &mut [u8]) -> Result<(), Unfit>
-        ensures { Meets meaning self.now (told_cut lanes.old stations.old result lanes.new stations.new) self.now }
+        ensures { Meets P.meaning self.now (told_cut lanes.old stations.old result lanes.new stations.new) self.now }
     {
         self.planner.cut(lanes, stations)
     }

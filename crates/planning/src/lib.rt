@@ -15,7 +15,7 @@ const ENOUGH: u64 = u64::MAX;
 
 // A plan above the plant that was run until it was finished.
 fn ended_plan<P: Plant + Drop>(heap: Global, plant: P) -> Result<Plan<P>, AllocError>
-    ensures { IfOk result (λ p. EndedPlan meaning plant p) }
+    ensures { IfOk result (λ p. EndedPlan P.meaning plant p) }
 {
     let mut plan = Plan::open(heap, plant)?;
     let _ = plan.run(ENOUGH);
@@ -24,7 +24,7 @@ fn ended_plan<P: Plant + Drop>(heap: Global, plant: P) -> Result<Plan<P>, AllocE
 
 // The listing of a plan above the plant that carries the most.
 pub fn plan_lines<P: Plant + Drop>(heap: Global, plant: P) -> Result<Vec<u8>, AllocError>
-    ensures { IfOk result (λ lines. BestLines (meaning plant) lines.items) }
+    ensures { IfOk result (λ lines. BestLines (P.meaning plant) lines.items) }
 {
     let mut trays = vec![in heap; 0u32; plant.lanes()]?;
     let mut lanes = vec![in heap; 0u8; plant.lanes()]?;

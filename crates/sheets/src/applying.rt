@@ -11,7 +11,7 @@ pub const MOST_SHEET_BYTES: usize = 4_096;
 
 // Whether every record of a sheet may be set over the plant.
 fn check_records<P: Plant>(plant: &P, sheet: &[u8]) -> Result<(), Refusal>
-    ensures { result ≡ verdict (sheet_read (length sheet.now) (length sheet.now) (meaning plant.now).floor sheet.now) }
+    ensures { result ≡ verdict (sheet_read (length sheet.now) (length sheet.now) (P.meaning plant.now).floor sheet.now) }
 {
     let mut rest = sheet;
     while !rest.is_empty() {
@@ -23,7 +23,7 @@ fn check_records<P: Plant>(plant: &P, sheet: &[u8]) -> Result<(), Refusal>
 
 // Whether a sheet may be set over the plant.
 fn check_sheet<P: Plant>(plant: &P, sheet: &[u8]) -> Result<(), Refusal>
-    ensures { result ≡ verdict (sheet_judged (meaning plant.now).floor sheet.now) }
+    ensures { result ≡ verdict (sheet_judged (P.meaning plant.now).floor sheet.now) }
 {
     if sheet.len() > MOST_SHEET_BYTES {
         return Err(refused(Reason::TooMany, 0));
@@ -34,7 +34,7 @@ fn check_sheet<P: Plant>(plant: &P, sheet: &[u8]) -> Result<(), Refusal>
 // Sets what one record says.
 fn set_one<P: Plant>(pile: &mut Ceiling<Closing<P>>, setting: Setting)
     ensures plant { pile.new.below.below ≡ pile.old.below.below }
-    ensures made { settings pile.new.below.closed pile.new.ceilings ≡ setting_made (meaning pile.old.below.below).floor setting (settings pile.old.below.closed pile.old.ceilings) }
+    ensures made { settings pile.new.below.closed pile.new.ceilings ≡ setting_made (P.meaning pile.old.below.below).floor setting (settings pile.old.below.closed pile.old.ceilings) }
 {
     match setting {
         Setting::Close { side, position } => {
@@ -49,7 +49,7 @@ fn set_one<P: Plant>(pile: &mut Ceiling<Closing<P>>, setting: Setting)
 // Sets what every record says, up to one that is refused.
 fn set_records<P: Plant>(pile: &mut Ceiling<Closing<P>>, sheet: &[u8]) -> Result<(), Refusal>
     ensures plant { pile.new.below.below ≡ pile.old.below.below }
-    ensures made { Reads (made_of (meaning pile.old.below.below).floor (sheet_read (length sheet.now) (length sheet.now) (meaning pile.old.below.below).floor sheet.now) (settings pile.old.below.closed pile.old.ceilings)) (settings pile.new.below.closed pile.new.ceilings) result }
+    ensures made { Reads (made_of (P.meaning pile.old.below.below).floor (sheet_read (length sheet.now) (length sheet.now) (P.meaning pile.old.below.below).floor sheet.now) (settings pile.old.below.closed pile.old.ceilings)) (settings pile.new.below.closed pile.new.ceilings) result }
 {
     let mut rest = sheet;
     while !rest.is_empty() {
@@ -63,7 +63,7 @@ fn set_records<P: Plant>(pile: &mut Ceiling<Closing<P>>, sheet: &[u8]) -> Result
 // Sets a pile to what the day's sheet says: every record in its order, or nothing where a record is refused.
 pub fn apply_sheet<P: Plant>(sheet: &[u8], pile: &mut Ceiling<Closing<P>>) -> Result<(), Refusal>
     ensures plant { pile.new.below.below ≡ pile.old.below.below }
-    ensures applied { Applied (meaning pile.old.below.below).floor (sheet_judged (meaning pile.old.below.below).floor sheet.now) (settings pile.old.below.closed pile.old.ceilings) (settings pile.new.below.closed pile.new.ceilings) result }
+    ensures applied { Applied (P.meaning pile.old.below.below).floor (sheet_judged (P.meaning pile.old.below.below).floor sheet.now) (settings pile.old.below.closed pile.old.ceilings) (settings pile.new.below.closed pile.new.ceilings) result }
 {
     check_sheet(&pile.below.below, sheet)?;
     set_records(pile, sheet)

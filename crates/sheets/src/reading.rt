@@ -61,7 +61,7 @@ fn read_body(number: u16, body: &[u8], at: usize) -> Result<Setting, Refusal>
 
 // Whether what a record says may be set over the plant. A refusal by the pile gets the place of the record.
 fn check_setting<P: Plant>(plant: &P, setting: Setting, at: usize) -> Result<(), Refusal>
-    ensures { result ≡ setting_judged (meaning plant.now).floor at setting }
+    ensures { result ≡ setting_judged (P.meaning plant.now).floor at setting }
 {
     let verdict = match setting {
         Setting::Close { side, position } => check_closing(plant, side, position),
@@ -93,7 +93,7 @@ pub(crate) fn next_setting<'a, P: Plant>(
     bytes: &'a [u8],
     at: usize,
 ) -> Result<Next<'a>, Refusal>
-    ensures { next_shown result ≡ next_judged (meaning plant.now).floor at bytes.now }
+    ensures { next_shown result ≡ next_judged (P.meaning plant.now).floor at bytes.now }
 {
     let next = read_setting(bytes, at)?;
     check_setting(plant, next.setting, at)?;

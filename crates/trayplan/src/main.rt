@@ -28,7 +28,7 @@ fn answer_of_day<P: Plant + Drop>(
     plant: P,
     sheet: &[u8],
 ) -> Result<Answer, AllocError>
-    ensures { IfOk result (λ a. DayAnswers (meaning plant) sheet.now a) }
+    ensures { IfOk result (λ a. DayAnswers (P.meaning plant) sheet.now a) }
 {
     let mut pile = Ceiling::new(Closing::new(plant));
     match apply_sheet(sheet, &mut pile) {

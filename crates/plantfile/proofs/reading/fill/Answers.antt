@@ -7,11 +7,10 @@ use Rattle.plantfile.proofs.reading.fill.Goals as goal
 
 pub invariant_of-plant : goal.invariant_of-plant
 invariant_of-plant c =
-    let first = c.in_ok-first.first in (
-      fresh_keeps first.head (vec_items c.args.plant.now.lanes) (vec_items c.args.plant.now.limits) c.requires.lanes c.requires.limits
-          (opened_keeps c.args.file.now first.head first.rest.now (sym c.in_ok-first.ensures)).0,
-      tt,
-    )
+    let first = c.in_ok-first.first in record {
+      kept = fresh_keeps first.head (vec_items c.args.plant.now.lanes) (vec_items c.args.plant.now.limits) c.requires.lanes c.requires.limits
+          (opened_keeps c.args.file.now first.head first.rest.now (sym c.in_ok-first.ensures)).0;
+    }
 
 pub loop-rest-init : goal.loop-rest-init
 loop-rest-init c =
@@ -43,7 +42,7 @@ add-requires c =
     next.record next.rest.now (sym c.in_ok-next.ensures)
 
 -- the bytes that are left grow fewer
-fewer : (c : goal.After-rest-in-loop-rest·1) → length c.in_ok-next.next.rest.now < length c.loop-rest.rest.now
+fewer : (c : goal.After-rest-in-loop-rest-1) → length c.in_ok-next.next.rest.now < length c.loop-rest.rest.now
 fewer c =
     let bs = c.loop-rest.rest.now in
     let h = c.loop-rest-test.ensures in

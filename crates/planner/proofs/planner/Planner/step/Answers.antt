@@ -36,7 +36,7 @@ invariant_of-self-3 c =
     let each : (e : ℕ) → get_or ys e 0 ≡ shifted n (kept_move s n).lanes (at xs) e =
     λ e. c.move_trays.ensures.each e ∙ ap (λ path. shifted n (map signed_state path) (at xs) e) c.as_slice-2.ensures.value in
     let plan = moved_plan M (tables_lawful p.tables) xs all p.plan s n found ys same each in
-    (search rules, (search rules, (search rules, (search rules, (plan, (λ h. absurd (mixed _ c.if-self.false h), (λ h. absurd (mixed _ c.if-self.false h), tt)))))))
+    record { all_trays = search rules; all_searched = search rules; all_lanes = search rules; all_stations = search rules; plan = plan; lanes_shown = (λ h. absurd (mixed _ c.if-self.false h)); stations_shown = (λ h. absurd (mixed _ c.if-self.false h)) }
   where
     mixed : (b : Bool) → b ≡ false → b ≡ true → ⊥
     mixed b h g = let z : ◌≡◌ {A = ℕ} 0 1 = cc in omega arith

@@ -9,7 +9,7 @@ mod told;
 
 use anyhow::anyhow;
 use checks::agrees;
-use hex::bytes_of;
+use hexdigits::bytes_of;
 use std::io::{BufRead, BufReader};
 
 // Plans the floor of each line.

@@ -5,6 +5,7 @@
 use std::alloc::AllocError;
 use std::io;
 use std::io::Read;
+use std::process::ExitCode;
 
 // What is printed of a file.
 #[derive(Drop)]
@@ -80,5 +81,13 @@ pub fn tell_failure(rt: &HostRuntime, program: &str, ending: &Result<(), Failure
         Err(Failure::Sheet(e)) => {
             let _ = eprintln!(rt; "{program}: today.bin: {e}");
         }
+    }
+}
+
+// The status that a program ends with.
+pub fn status_of(ending: Result<(), Failure>) -> ExitCode {
+    match ending {
+        Ok(()) => ExitCode::SUCCESS,
+        Err(_) => ExitCode::FAILURE,
     }
 }

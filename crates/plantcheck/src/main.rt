@@ -7,11 +7,12 @@ ghost use Rattle.std.specs.Prelude.{IfOk};
 ghost use Rattle.plantformat.specs.Judge.{judge};
 ghost use Rattle.plantcheck.specs.Answers.{Answers};
 
-use console::{Answer, Failure, print_answer, read_file, tell_failure};
+use console::{Answer, Failure, print_answer, read_file, status_of, tell_failure};
 use listing::{show_plant, show_refusal};
 use plantfile::{Verdict, read_plant};
 use plantformat::MOST_BYTES;
 use std::alloc::{AllocError, Global};
+use std::process::ExitCode;
 
 // What is to be printed of a file.
 fn answer_to(heap: Global, file: &[u8]) -> Result<Answer, AllocError>
@@ -30,8 +31,8 @@ fn check_plant(rt: &HostRuntime) -> Result<(), Failure> {
     print_answer(rt, answer_to(rt.alloc(), file.as_slice())?)
 }
 
-fn main(rt: HostRuntime) -> Result<(), Failure> {
+fn main(rt: HostRuntime) -> ExitCode {
     let ending = check_plant(&rt);
     tell_failure(&rt, "plantcheck", &ending);
-    ending
+    status_of(ending)
 }

@@ -7,7 +7,7 @@
 ghost use Rattle.std.specs.Prelude.{IfOk};
 ghost use Rattle.trayplan.specs.Answers.{DayAnswers};
 
-use console::{Answer, Failure, print_answer, read_file, read_to, tell_failure};
+use console::{Answer, Failure, print_answer, read_file, read_to, status_of, tell_failure};
 use listing::show_refusal;
 use piles::{Ceiling, Closing};
 use planning::plan_lines;
@@ -17,6 +17,7 @@ use plantformat::MOST_BYTES;
 use sheets::{MOST_SHEET_BYTES, apply_sheet};
 use std::alloc::{AllocError, Global};
 use std::io::ErrorKind;
+use std::process::ExitCode;
 use std::{fs, io};
 
 // Where the day's sheet lies.
@@ -71,8 +72,8 @@ fn plan_trays(rt: &HostRuntime) -> Result<(), Failure> {
     print_answer(rt, answer)
 }
 
-fn main(rt: HostRuntime) -> Result<(), Failure> {
+fn main(rt: HostRuntime) -> ExitCode {
     let ending = plan_trays(&rt);
     tell_failure(&rt, "trayplan", &ending);
-    ending
+    status_of(ending)
 }

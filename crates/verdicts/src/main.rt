@@ -7,7 +7,7 @@ ghost use Rattle.plantformat.specs.Judge.{judge};
 ghost use Rattle.verdicts.specs.Verdicts.{verdict_line};
 
 use anyhow::anyhow;
-use hex::bytes_of;
+use hexdigits::bytes_of;
 use listing::show_refusal;
 use plantfile::{Verdict, read_plant};
 use std::alloc::{AllocError, Global};

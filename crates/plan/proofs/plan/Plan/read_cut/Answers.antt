@@ -13,11 +13,11 @@ returns g c =
     let p = c.args.self.now in
     let lanes = c.args.for_lanes in
     let stations = c.args.for_stations in
-    let r = c.cut_read.result in
-    let ls = c.cut_read.new.lanes in
-    let ss = c.cut_read.new.stations in
-    let lanes_len : length ls ≡ lanes.len = omega (arith, c.cut_read.auto, c.as_mut_slice.ensures.len) in
-    let stations_len : length ss ≡ stations.len = omega (arith, c.cut_read.auto, c.as_mut_slice-2.ensures.len) in
+    let r = c.cut-read.result in
+    let ls = c.cut-read.new.lanes in
+    let ss = c.cut-read.new.stations in
+    let lanes_len : length ls ≡ lanes.len = omega (arith, c.cut-read.auto, c.as_mut_slice.ensures.len) in
+    let stations_len : length ss ≡ stations.len = omega (arith, c.cut-read.auto, c.as_mut_slice-2.ensures.len) in
     let ls' = vec_items (with_items lanes ls) in
     let ss' = vec_items (with_items stations ss) in
     let lanes_held : ls' ≡ ls = refilled_is lanes.len ls (drop (length ls) lanes.items) lanes_len in
@@ -28,5 +28,5 @@ returns g c =
     subst (λ xs. Meets M p (told_cut xs (vec_items stations) r ls' ss') p) c.as_mut_slice.ensures.value
     (subst (λ xs. Meets M p (told_cut given_lanes xs r ls' ss') p) c.as_mut_slice-2.ensures.value
     (subst⁻¹ (λ xs. Meets M p (told_cut given_lanes given_stations r xs ss') p) lanes_held
-    (subst⁻¹ (λ xs. Meets M p (told_cut given_lanes given_stations r ls xs) p) stations_held c.cut_read.ensures))) in
+    (subst⁻¹ (λ xs. Meets M p (told_cut given_lanes given_stations r ls xs) p) stations_held c.cut-read.ensures))) in
     (told_cut (vec_items lanes) (vec_items stations) r ls' ss', (r, with_items lanes ls, with_items stations ss, refl, refl), met)

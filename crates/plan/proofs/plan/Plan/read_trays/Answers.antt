@@ -10,11 +10,11 @@ use Rattle.plan.proofs.plan.Plan.read_trays.Goals as goal
 pub returns : goal.returns
 returns g c =
     let buffer = c.args.buffer in
-    let r = c.trays_read.result in
-    let ys = c.trays_read.new.out in
-    let len : length ys ≡ buffer.len = omega (arith, c.trays_read.auto, c.as_mut_slice.ensures.len) in
+    let r = c.trays-read.result in
+    let ys = c.trays-read.new.out in
+    let len : length ys ≡ buffer.len = omega (arith, c.trays-read.auto, c.as_mut_slice.ensures.len) in
     let held : vec_items (with_items buffer ys) ≡ ys = refilled_is buffer.len ys (drop (length ys) buffer.items) len in
     let met =
     subst (λ xs. Meets g.P.Plant.meaning c.args.self.now (told_trays xs r (vec_items (with_items buffer ys))) c.args.self.now) c.as_mut_slice.ensures.value
-    (subst⁻¹ (λ zs. Meets g.P.Plant.meaning c.args.self.now (told_trays c.as_mut_slice.result.now r zs) c.args.self.now) held c.trays_read.ensures) in
+    (subst⁻¹ (λ zs. Meets g.P.Plant.meaning c.args.self.now (told_trays c.as_mut_slice.result.now r zs) c.args.self.now) held c.trays-read.ensures) in
     (told_trays (vec_items buffer) r (vec_items (with_items buffer ys)), (r, with_items buffer ys, refl, refl), met)

@@ -11,8 +11,8 @@ pub loop-call-init : goal.loop-call-init
 loop-call-init g c =
     let M = g.P.Plant.meaning in
     let p = c.args.self.now in
-    let empty = c.in_ok-told.ensures.made in
-    (omega (arith, empty.1, c.into_iter-left.ensures.len), ([], refl, subst⁻¹ (λ bs. Replays M p [] bs p) empty.0 (replays_none M p)))
+    let empty = c.in_ok-told.ensures in
+    (omega (arith, empty.len, empty.capacity, c.into_iter-left.ensures.len), ([], refl, subst⁻¹ (λ bs. Replays M p [] bs p) empty.items (replays_none M p)))
 
 pub loop-call-preserved : goal.loop-call-preserved
 loop-call-preserved g c =

@@ -2,7 +2,7 @@
 """A second reader of the day's sheet, in Python, which shares no code with the program.
 
     tools/day.py SHEET < PLANT    what trayplan prints of a plant file where today.bin is the file SHEET
-    tools/day.py --try N          makes N floors with sheets, some of them spoiled, and compares target/bin/trayplan with this
+    tools/day.py --try N          makes N floors with sheets, some of them spoiled, and compares crates/trayplan/out/trayplan with this
 
 The plan comes from tools/planner.py, on the caps that the sheet leaves.
 """
@@ -126,7 +126,7 @@ def try_days(count):
             sheet = drawn_sheet(draw, judge(file))
             (Path(folder) / "today.bin").write_bytes(sheet)
             expected = answer(file, sheet)
-            done = subprocess.run([str(top / "target/bin/trayplan")], input=file, capture_output=True, cwd=folder)
+            done = subprocess.run([str(top / "crates/trayplan/out/trayplan")], input=file, capture_output=True, cwd=folder)
             if (done.stdout.decode(), done.returncode) != expected:
                 print(f"differs: plant {file.hex()} sheet {sheet.hex()[:80]}")
             else:

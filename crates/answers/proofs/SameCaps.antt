@@ -1,11 +1,10 @@
 -- The caps of a side depend on the own caps of its lanes alone; and the limit that is found for a side keeps the rules there.
-use Rattle.std.proofs.Common.{◌≡◌, ℕ, zero, suc, ◌+◌, ◌-◌, ◌*◌, ◌<◌, ◌≤◌, min, Bool, true, false, cond, eqb, List, map, length, get_or, take, Some, None, vec_items, Option, sym, refl, ap, ◌∙◌, arith, length-take, get_or-take}
+use Rattle.std.proofs.Common.{◌≡◌, ℕ, zero, suc, ◌-◌, ◌*◌, ◌<◌, ◌≤◌, true, cond, eqb, List, map, length, get_or, take, Some, None, vec_items, Option, refl, ap, ◌∙◌, arith, length-take, get_or-take}
 use Rattle.polymatroid.specs.Sets.{has}
-use Rattle.polymatroid.specs.Side.{load}
-use Rattle.polymatroid.specs.Kinds.{plain, sum_to, Groups, own, under, passed, depth, worth, grouped}
+use Rattle.polymatroid.specs.Kinds.{plain, Groups, own, under, passed, depth, worth, grouped}
 use Rattle.polymatroid.proofs.Side.{load_same}
 use Rattle.polymatroid.proofs.Layers.{sum_same}
-use Rattle.floor.specs.Floor.{width, end_of, station_of, side}
+use Rattle.floor.specs.Floor.{width, end_of, station_of}
 use Rattle.floor.proofs.Places.{side_again}
 use Rattle.plantformat.specs.Records.{Limit, table, groups, grades, grouping, cap_by, limit_of}
 use Rattle.plantformat.specs.Rules.{limit_keeps}

@@ -1,16 +1,15 @@
 -- What each call does: its answer and what the plan holds afterwards, as definitions that compute.
-use Rattle.std.specs.Prelude.{◌≡◌, ℕ, zero, suc, ◌+◌, ◌-◌, ◌^◌, min, Bool, true, false, cond, not, ◌&&◌, ◌||◌, List, [], ◌∷◌, map, length, replicate, Some, None, Ok, Err, Option, Result, ◌==◌, nat_le}
+use Rattle.std.specs.Prelude.{◌≡◌, ℕ, zero, suc, ◌+◌, ◌-◌, ◌^◌, min, Bool, true, false, cond, ◌&&◌, ◌||◌, List, map, length, replicate, Some, None, Ok, Err, Option, ◌==◌, nat_le}
 use Rattle.std.proofs.Math.Option as option
 use Rattle.std.specs.List.{range_with_len}
 use Rattle.polymatroid.specs.Side.{load}
 use Rattle.polymatroid.specs.Tables.{every}
-use Rattle.floor.specs.Floor.{Floor, sides, width, end_of, station_of, stock, despatch}
+use Rattle.floor.specs.Floor.{sides, width, end_of, station_of, stock, despatch}
 use Rattle.floor.specs.Meaning.{Meaning}
 use Rattle.network.specs.Plans.{trays, through, total}
 use Rattle.network.specs.Cuts.{crosses}
 use Rattle.labelling.specs.Steps.{Move, step, made, labels}
 use Rattle.labelling.specs.Near.{near, unlabelled}
-use Rattle.calls.specs.declared.Unfit.{Unfit}
 use Rattle.calls.specs.declared.Unfit.TheVariants.{Length, Load, Unfinished}
 use Rattle.calls.specs.Events.{Answer, Event, loaded, stepped, ran, told_total, told_moves, told_trays, told_cut, at}
 

@@ -1,5 +1,5 @@
 -- A plan that has kept the promise, and that it goes on keeping it.
-use Rattle.std.specs.Prelude.{◌≡◌, Bool, true, [], ◌∷◌}
+use Rattle.std.specs.Prelude.{◌≡◌, true, [], ◌∷◌}
 use Rattle.std.proofs.Math.Option.{none}
 use Rattle.floor.specs.Meaning.{Meaning, Lawful}
 use Rattle.labelling.specs.Steps.{step}

@@ -1,5 +1,5 @@
 -- The promise over every list of calls, in the words of the subject.
-use Rattle.std.specs.Prelude.{◌≡◌, ℕ, ◌*◌, ◌<◌, ◌≤◌, Bool, true, false, not, ◌⊎◌, List, [], ◌∷◌, length, Some, None, Ok, Err, ◌==◌, ◌≢◌}
+use Rattle.std.specs.Prelude.{◌≡◌, ℕ, ◌*◌, ◌<◌, ◌≤◌, Bool, true, false, ◌⊎◌, List, [], ◌∷◌, length, Some, None, Ok, Err, ◌==◌, ◌≢◌}
 use Rattle.floor.specs.Floor.{stock, despatch}
 use Rattle.floor.specs.Meaning.{Meaning}
 use Rattle.network.specs.Plans.{Feasible, Balanced, FitsBy, total}

@@ -1,5 +1,5 @@
 -- What the framing layer hands on, as the definitions of the format see it.
-use Rattle.std.specs.Prelude.{ℕ, ◌-◌, List, length, take, drop, Ok, Err, Result}
+use Rattle.std.specs.Prelude.{ℕ, ◌-◌, List, take, drop, Ok, Err, Result}
 use Rattle.plantformat.specs.declared.FramingFault.{FramingFault}
 use Rattle.plantformat.specs.declared.FramingFault.TheVariants as framing
 use Rattle.plantformat.specs.Bytes.{word}

@@ -1,5 +1,5 @@
 -- Without a path the plan carries the most; with one, some plan carries more.
-use Rattle.std.proofs.Common.{◌≡◌, ℕ, true, false, List, sym, refl, ap, subst, arith}
+use Rattle.std.proofs.Common.{◌≡◌, ℕ, true, false, List, sym, refl, ap, arith}
 use mathlib.Core.Path.{subst⁻¹}
 use mathlib.Core.Option.{Option, none, some}
 use Rattle.floor.specs.Meaning.{Meaning}

@@ -1,8 +1,8 @@
 -- A step by cases: the path that the labelling found, its amount and the trays after the move; or the finished labelling.
-use Rattle.std.proofs.Common.{◌≡◌, ℕ, suc, ◌-◌, ◌≤◌, List, sym, refl, ap, ◌∙◌, arith}
+use Rattle.std.proofs.Common.{◌≡◌, ℕ, suc, ◌≤◌, List, sym, refl, ap, ◌∙◌, arith}
 use mathlib.Core.Option.{none, some}
 use Rattle.floor.specs.Meaning.{Meaning, Lawful}
-use Rattle.network.specs.States.{amount, augmented}
+use Rattle.network.specs.States.{augmented}
 use Rattle.network.specs.Plans.{Fits}
 use Rattle.network.specs.Stages.{Stage}
 use Rattle.network.specs.Found.{Found}

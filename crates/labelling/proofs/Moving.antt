@@ -1,5 +1,5 @@
 -- A move keeps the plan feasible and adds its amount to the total.
-use Rattle.std.proofs.Common.{◌≡◌, ℕ, suc, ◌+◌, ◌<◌, ◌≤◌, true, List, length, get_or, sym, ap, ◌∙◌, subst, arith}
+use Rattle.std.proofs.Common.{◌≡◌, ℕ, suc, ◌+◌, ◌<◌, ◌≤◌, true, List, length, get_or, sym, ap, ◌∙◌, arith}
 use mathlib.Core.Path.{subst⁻¹}
 use mathlib.Core.Option.{some}
 use Rattle.floor.specs.Meaning.{Meaning, Lawful}

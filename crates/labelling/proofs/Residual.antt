@@ -1,12 +1,11 @@
 -- Augmenting paths, as the rules word them, are the paths of the residual relation through distinct lanes.
-use Rattle.std.proofs.Common.{◌≡◌, ℕ, zero, suc, ◌-◌, ◌<◌, ◌≤◌, Bool, true, false, sym, refl, ap, ◌∙◌, subst, inl, inr, arith}
+use Rattle.std.proofs.Common.{◌≡◌, ℕ, zero, suc, ◌<◌, ◌≤◌, Bool, true, false, sym, refl, ap, ◌∙◌, subst, inl, inr, arith}
 use mathlib.Core.Path.{subst⁻¹}
 use Rattle.std.proofs.lemmas.Bool.{cases_lt, cases_Bool}
 use Rattle.floor.specs.Meaning.{Meaning, Lawful}
 use Rattle.network.specs.States.{Residual, State, Pole, Plus, Minus, at, amount, lane_room, lane_room_but, OnFloor, holder}
 use Rattle.network.specs.Plans.{Fits}
 use Rattle.labelling.specs.Rules.{full, in_tight, Carries}
-use Rattle.labelling.specs.Table.{path}
 use Rattle.labelling.specs.Augmenting.{Augmenting, ResidualPath}
 use Rattle.labelling.specs.Theorems.{AugmentingIsResidual}
 use Rattle.network.proofs.Rooms.{room_less}

@@ -1,5 +1,5 @@
 -- A step: the labelling, the move along the path that it finds, and moves one after another.
-use Rattle.std.specs.Prelude.{◌≡◌, ℕ, zero, suc, ◌+◌, List, [], ◌∷◌}
+use Rattle.std.specs.Prelude.{◌≡◌, ℕ, zero, suc, List, [], ◌∷◌}
 use Rattle.std.proofs.Math.Option.{Option, none, some}
 use Rattle.floor.specs.Meaning.{Meaning}
 use Rattle.network.specs.States.{State, applied}

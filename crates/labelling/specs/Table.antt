@@ -1,5 +1,5 @@
 -- The labelling: a table of labels, made level by level, for any test r of who gives a label to whom; and the path read back.
-use Rattle.std.specs.Prelude.{ℕ, zero, suc, ◌+◌, ◌-◌, Bool, true, false, cond, not, ◌&&◌, List, [], ◌∷◌, ◌==◌, nat_lt, slice_index_or}
+use Rattle.std.specs.Prelude.{ℕ, zero, suc, ◌-◌, Bool, true, false, cond, not, ◌&&◌, List, [], ◌∷◌, ◌==◌, nat_lt, slice_index_or}
 use Rattle.polymatroid.specs.Finite.{first}
 use Rattle.network.specs.States.{State, Pole, Plus, Minus}
 

@@ -9,7 +9,6 @@ use Rattle.polymatroid.proofs.Tables.{named}
 use Rattle.polymatroid.proofs.Groups.{groups_keep}
 use Rattle.floor.specs.Numbers.{top_cap}
 use Rattle.plantformat.specs.Numbers.{top_lane, most_groups}
-use Rattle.plantformat.specs.Records as format
 use Rattle.plantformat.specs.Records.{table, groups, grades, grouping, cap_by}
 use Rattle.plantformat.specs.Rules.{limit_keeps, all_at_most, all_below, parents_keep}
 use Rattle.plantformat.specs.Judge.{longs, parents_at, bounds_at, members_at}

@@ -1,10 +1,10 @@
 -- What an accepted line keeps.
-use Rattle.std.proofs.Common.{◌≡◌, ℕ, zero, suc, ◌-◌, ◌*◌, ◌≤◌, Bool, true, false, cond, ◌&&◌, eqb, leb, List, length, get_or, replicate, Ok, Err, Result, sym, refl, ap, ◌∙◌, arith}
+use Rattle.std.proofs.Common.{◌≡◌, ℕ, zero, suc, ◌-◌, ◌*◌, ◌≤◌, Bool, true, false, cond, eqb, leb, List, length, get_or, replicate, Ok, Err, Result, sym, refl, ap, ◌∙◌, arith}
 use Rattle.std.proofs.lemmas.Bool.Decides.{nat_tests}
 use Rattle.std.proofs.lemmas.Bool.{eqb-true, leb-true}
 use Rattle.plant.specs.declared.refusals.Refusal.{Refusal}
 use Rattle.floor.specs.Numbers.{most_stations, most_lanes, most_on_side}
-use Rattle.linefloor.specs.Line.{grades_low, grades_fall, line_meaning}
+use Rattle.linefloor.specs.Line.{grades_low, grades_fall}
 use Rattle.lines.specs.Made.{ranged, grade_of, line_judged, SameGrades}
 
 -- a test that was passed on the way to a verdict

@@ -1,5 +1,5 @@
 -- The lines that show a plant, and the line that tells a refusal, as bytes.
-use Rattle.std.specs.Prelude.{◌≡◌, ℕ, zero, suc, ◌^◌, Bool, cond, List, [], ◌++◌, codes, decimal, Result, OnOk, ◌==◌}
+use Rattle.std.specs.Prelude.{◌≡◌, ℕ, zero, suc, ◌^◌, cond, List, [], ◌++◌, codes, decimal, Result, OnOk, ◌==◌}
 use Rattle.floor.specs.Floor.{Floor, stock, despatch, leaving, entering, sides, width, end_of, station_of, lane_at}
 use Rattle.floor.specs.Meaning.{Meaning}
 use Rattle.plant.specs.declared.refusals.Layer.{Layer}

@@ -1,9 +1,9 @@
 -- Rooms alone decide the rules of a scan, and what a + lane of a path lets through.
-use Rattle.std.proofs.Common.{◌≡◌, ℕ, ◌<◌, ◌≤◌, Bool, true, false, cond, not, ◌&&◌, eqb, ltb, ◌⊎◌, sym, refl, ap, ◌∙◌, inl, inr, arith}
-use Rattle.std.proofs.lemmas.Bool.{cases_Bool, cases_eq, eqb-true, eqb-false, eq-eqb, ne_eqb, lt-ltb, le-ltb, ltb-true, cond-true, cond-false, not-true}
+use Rattle.std.proofs.Common.{◌≡◌, ℕ, ◌<◌, Bool, true, false, cond, not, ◌&&◌, eqb, ltb, sym, refl, ap, ◌∙◌, inl, inr, arith}
+use Rattle.std.proofs.lemmas.Bool.{cases_Bool, eqb-true, eqb-false, lt-ltb, ltb-true, cond-true, cond-false, not-true}
 use Rattle.polymatroid.specs.Sets.{has}
 use Rattle.polymatroid.specs.Room.{zeroed}
-use Rattle.polymatroid.specs.Side.{room, room_but, tight_set}
+use Rattle.polymatroid.specs.Side.{room, tight_set}
 use Rattle.polymatroid.proofs.Zeroing.{zeroing, members_by_room}
 use Rattle.floor.specs.Floor.{leaving, entering, stock, despatch, place, count}
 use Rattle.floor.specs.Meaning.{Meaning, Lawful}
@@ -12,9 +12,8 @@ use Rattle.network.specs.States.{State, Pole, Plus, Minus, OnFloor, lane_room, l
 use Rattle.network.proofs.Rooms.{there, apart, all_is, less_is}
 use Rattle.labelling.specs.Rules.{full, in_tight, ruled}
 use Rattle.labelling.specs.Steps.{outcome}
-use Rattle.labelling.specs.Amount.{room_beside}
 use Rattle.labelling.proofs.Same.{Among, label_same}
-use Rattle.measures.specs.ByRooms.{room_at, room_zeroing, is_full, waits_for, ruled_by_rooms, RoomsRule, RoomsLabel, beside, Another, RoomsBeside}
+use Rattle.measures.specs.ByRooms.{room_at, room_zeroing, is_full, waits_for, ruled_by_rooms, RoomsRule, RoomsLabel, RoomsBeside}
 
 module _ (M : Meaning) (f : ℕ → ℕ) where
   pub full_is : (d : Bool) (e : ℕ) → is_full M f d e ≡ full M f d e

@@ -1,14 +1,12 @@
 -- The rules of a scan and the amount of a path, worked out from rooms alone: a lane's room, and its room with another lane's
 -- trays put to 0.
-use Rattle.std.specs.Prelude.{◌≡◌, ℕ, suc, min, Bool, true, false, cond, not, ◌&&◌, List, length, ◌==◌, nat_lt}
-use Rattle.polymatroid.specs.Finite.{least}
+use Rattle.std.specs.Prelude.{◌≡◌, ℕ, Bool, true, false, cond, not, ◌&&◌, ◌==◌, nat_lt}
 use Rattle.polymatroid.specs.Room.{zeroed}
 use Rattle.polymatroid.specs.Side.{room}
 use Rattle.floor.specs.Floor.{leaving, entering, place, count, stock, despatch}
 use Rattle.floor.specs.Meaning.{Meaning, Lawful}
 use Rattle.network.specs.Plans.{trays, Fits}
 use Rattle.network.specs.States.{State, Pole, Plus, Minus, OnFloor}
-use Rattle.labelling.specs.Augmenting.{along}
 use Rattle.labelling.specs.Rules.{ruled}
 use Rattle.labelling.specs.Table.{label}
 use Rattle.labelling.specs.Steps.{outcome}

@@ -1,5 +1,5 @@
 -- A path at the lanes that enter a station k: pairs by a full arrival, whose exchanges are sound, and the open pair.
-use Rattle.std.proofs.Common.{◌≡◌, ℕ, suc, ◌-◌, ◌<◌, ◌≤◌, min, Bool, true, false, cond, not, ◌&&◌, eqb, ltb, List, ◌∷◌, map, sym, refl, ap, ◌∙◌, subst, inl, inr, arith}
+use Rattle.std.proofs.Common.{◌≡◌, ℕ, suc, ◌<◌, ◌≤◌, min, Bool, true, false, cond, not, ◌&&◌, eqb, ltb, List, ◌∷◌, map, sym, refl, ap, ◌∙◌, inl, inr, arith}
 use mathlib.Core.Path.{subst⁻¹}
 use Rattle.std.specs.List.{AllByRecursion as All}
 use Rattle.std.proofs.lemmas.Bool.{cases_eq, both_ways, eqb-true, eq-eqb, and_parts}
@@ -7,7 +7,7 @@ use Rattle.polymatroid.specs.Finite.{first}
 use Rattle.polymatroid.specs.Side.{In, Full, room_but, Within, Caps}
 use Rattle.polymatroid.specs.Exchange.{Exchange, Sound, Clear, InTurn}
 use Rattle.polymatroid.proofs.Room.{room_but_full, member_from_room}
-use Rattle.floor.specs.Floor.{on, place, count}
+use Rattle.floor.specs.Floor.{place, count}
 use Rattle.floor.specs.Meaning.{Meaning, Lawful}
 use Rattle.network.specs.Plans.{trays, Fits}
 use Rattle.network.specs.States.{State, Pole, Plus, Minus, at, lane_room, lane_room_but, amount, Step, Path, Open, Free}

@@ -1,8 +1,7 @@
 -- After a move, the lanes that enter a station carry what the exchanges of the side say.
-use Rattle.std.proofs.Common.{◌≡◌, ℕ, suc, ◌-◌, ◌^◌, ◌<◌, ◌≤◌, true, false, eqb, ◌⊎◌, List, length, get_or, sym, refl, ap, ◌∙◌, ap₂, inl, inr, arith}
+use Rattle.std.proofs.Common.{◌≡◌, ℕ, suc, ◌^◌, ◌<◌, ◌≤◌, true, false, eqb, ◌⊎◌, List, length, get_or, sym, refl, ap, ◌∙◌, ap₂, inl, inr, arith}
 use Rattle.std.proofs.lemmas.Bool.{cases_lt, cases_Bool, both_ways, lt-ltb, eq-eqb}
 use Rattle.std.proofs.lemmas.List.{length-map, get_or-map}
-use Rattle.polymatroid.specs.Sets.{has}
 use Rattle.polymatroid.specs.Finite.{first}
 use Rattle.polymatroid.specs.Side.{load, Within, room_but}
 use Rattle.polymatroid.specs.Exchange.{after, SideMove}
@@ -21,7 +20,7 @@ use Rattle.network.proofs.Loads.{load_walked}
 use Rattle.network.proofs.Visits.{by_arrival, by_departure}
 use Rattle.network.proofs.Arrivals.{pos_plus, pos_minus, is_full_pair, is_open_pair, exchange_at, the_open_pair, open_up, open_down, exchanges_at, one_open_pair}
 use Rattle.network.proofs.Exchanges.{move}
-use Rattle.network.proofs.Shares.{none, given_sum, taken_sum}
+use Rattle.network.proofs.Shares.{given_sum, taken_sum}
 
 module _ (M : Meaning) (laws : Lawful M) (f : ℕ → ℕ) (fits : Fits M f) (P : ℕ → State) (N n : ℕ) (path : Path M f P N)
     (least : (q : ℕ) → q < N → n ≤ amount M f (P q) (P (suc q))) (k : ℕ) (on_floor : k < M.floor.stations) where

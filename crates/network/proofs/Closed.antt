@@ -1,14 +1,13 @@
 -- A labelling that can label no more: which stations are near, which lanes are full, and what their tight sets hold.
-use Rattle.std.proofs.Common.{◌≡◌, ℕ, ◌+◌, ◌<◌, Bool, true, false, not, ◌||◌, sym, ap, ◌∙◌, inl, inr, arith}
+use Rattle.std.proofs.Common.{◌≡◌, ℕ, ◌<◌, Bool, true, false, ◌||◌, sym, ap, ◌∙◌, inl, inr, arith}
 use Rattle.std.proofs.lemmas.Bool.{cases_lt, cases_Bool, cases_eq, both_ways, or_left, or_right, or_cases}
-use Rattle.polymatroid.specs.Sets.{has}
 use Rattle.polymatroid.specs.Side.{In}
 use Rattle.floor.specs.Floor.{place}
 use Rattle.floor.specs.Meaning.{Meaning, Lawful}
 use Rattle.network.specs.Plans.{Fits}
 use Rattle.network.specs.States.{State, Pole, Plus, Minus, at, lane_room, OnFloor, Turn, Step, Residual, Open, Free}
 use Rattle.network.specs.Finished.{LabelledState, LabelledLane, Closed}
-use Rattle.network.proofs.Rooms.{tight_at, there, tight_there, member_full, member_room, room_member, member_within, member_carries}
+use Rattle.network.proofs.Rooms.{tight_at, tight_there, member_full, member_room, room_member, member_within, member_carries}
 use Rattle.network.proofs.Loads.{minus_carries}
 use Rattle.network.proofs.Visits.{open_unless, open_free}
 use Rattle.network.proofs.Found.{turn?}

@@ -1,5 +1,5 @@
 -- A move breaks no cap, and its critical pair lets nothing through afterwards.
-use Rattle.std.proofs.Common.{◌≡◌, ℕ, suc, ◌+◌, ◌-◌, ◌<◌, ◌≤◌, min, true, false, ◌⊎◌, sym, refl, ap, ◌∙◌, subst, ap₂, inl, inr, arith}
+use Rattle.std.proofs.Common.{◌≡◌, ℕ, suc, ◌-◌, ◌<◌, ◌≤◌, min, true, false, ◌⊎◌, sym, refl, ap, ◌∙◌, subst, ap₂, inl, inr, arith}
 use mathlib.Core.Path.{fun_ext}
 use Rattle.std.proofs.lemmas.Bool.Decides.{nat_tests}
 use Rattle.std.proofs.lemmas.Bool.{cases_lt, cases_eq, eq-eqb}
@@ -7,7 +7,7 @@ use Rattle.polymatroid.specs.Side.{Within, minus}
 use Rattle.floor.specs.Floor.{count}
 use Rattle.floor.specs.Meaning.{Meaning}
 use Rattle.network.specs.Plans.{trays}
-use Rattle.network.specs.States.{State, Pole, Plus, Minus, at, room_at, lane_room, lane_room_but, amount, OnFloor, applied, augmented}
+use Rattle.network.specs.States.{State, Pole, Plus, Minus, room_at, lane_room, lane_room_but, amount, OnFloor, applied, augmented}
 use Rattle.network.specs.Moves.{Moving, MoveFits, PairDies}
 use Rattle.network.proofs.Paths.{touches, walked_touched}
 use Rattle.network.proofs.Loads.{minus_carries}

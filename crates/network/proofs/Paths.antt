@@ -4,7 +4,6 @@ use Rattle.std.proofs.lemmas.Bool.Decides.{nat_tests}
 use Rattle.std.proofs.lemmas.Bool.{cases_Bool, cases_eq, both_ways, eqb-true, ne_eqb}
 use Rattle.polymatroid.specs.Side.{plus, minus}
 use Rattle.floor.specs.Meaning.{Meaning}
-use Rattle.network.specs.Plans.{trays}
 use Rattle.network.specs.States.{State, Pole, Plus, Minus, at, amount, Turn, Step, Path, applied, augmented}
 
 -- nothing steps to the start, and the end steps to nothing

@@ -1,12 +1,12 @@
 -- What the pairs of a path give to a set of the lanes that enter a station and take from it: the exchanges and the open pair do.
-use Rattle.std.proofs.Common.{◌≡◌, ℕ, zero, suc, ◌+◌, ◌-◌, ◌^◌, ◌<◌, Bool, true, false, cond, not, ◌&&◌, eqb, ltb, List, ◌∷◌, map, refl, ap, arith}
+use Rattle.std.proofs.Common.{◌≡◌, ℕ, zero, suc, ◌+◌, ◌^◌, ◌<◌, Bool, true, false, cond, not, ◌&&◌, eqb, ltb, List, ◌∷◌, map, refl, ap, arith}
 use Rattle.polymatroid.specs.Sets.{has}
 use Rattle.polymatroid.specs.Finite.{first}
 use Rattle.polymatroid.specs.Exchange.{Exchange, ups, downs}
 use Rattle.polymatroid.proofs.Codes.{has_past}
 use Rattle.floor.specs.Floor.{place, count}
 use Rattle.floor.specs.Meaning.{Meaning, Lawful}
-use Rattle.network.specs.Plans.{trays, Fits}
+use Rattle.network.specs.Plans.{Fits}
 use Rattle.network.specs.States.{State, Pole, Plus, Minus, at, Path}
 use Rattle.network.proofs.Sums.{given, taken}
 use Rattle.polymatroid.specs.Kinds.{sum_to}

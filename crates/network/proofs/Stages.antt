@@ -6,7 +6,7 @@ use Rattle.levels.specs.Levels.{Walk, Level, Straight, Along, Splices}
 use Rattle.levels.proofs.Walks.{join_walk, rest_walk, turned_walk}
 use Rattle.levels.proofs.Levels.{levels_rise, levels_rise_back, numbers_rise}
 use Rattle.floor.specs.Meaning.{Meaning}
-use Rattle.network.specs.States.{State, Pole, Plus, Minus, at, amount, Step, lane_number}
+use Rattle.network.specs.States.{State, Pole, Plus, Minus, amount, Step, lane_number}
 use Rattle.network.specs.Stages.{Stage, Run, LengthsRise, PairsDiffer}
 use Rattle.network.proofs.Paths.{step_at, out_of_end}
 use Rattle.network.proofs.Moves.{pair_dies}

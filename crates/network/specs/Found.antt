@@ -3,7 +3,7 @@ use Rattle.std.specs.Prelude.{◌≡◌, ℕ, suc, ◌<◌, Bool, true, false}
 use Rattle.levels.specs.Levels.{Straight, Lowest}
 use Rattle.levels.specs.Search.{Labels}
 use Rattle.floor.specs.Meaning.{Meaning, Lawful}
-use Rattle.network.specs.States.{Residual, Turns, holder, lane_number, State, Pole, at, Step, Path}
+use Rattle.network.specs.States.{Residual, Turns, holder, lane_number, State, Pole, Step, Path}
 use Rattle.network.specs.Plans.{Fits}
 
 -- In i x: the state x has a label of level i, given by the state name x; the levels below N - 1 have been scanned

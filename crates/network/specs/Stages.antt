@@ -1,5 +1,5 @@
 -- Moves one after the other, each along a shortest path of lowest lane numbers.
-use Rattle.std.specs.Prelude.{◌≡◌, ℕ, suc, ◌+◌, ◌-◌, ◌*◌, ◌<◌, ◌≤◌, ◌≢◌, nat_eq}
+use Rattle.std.specs.Prelude.{◌≡◌, ℕ, suc, ◌-◌, ◌*◌, ◌<◌, ◌≤◌, ◌≢◌, nat_eq}
 use Rattle.levels.specs.Counting.{tally}
 use Rattle.levels.specs.Levels.{Straight, Lowest}
 use Rattle.floor.specs.Meaning.{Meaning}

@@ -1,5 +1,5 @@
 -- The states of a path, the amount that a pair of them lets through, and the residual relation.
-use Rattle.std.specs.Prelude.{◌≡◌, ℕ, zero, suc, ◌+◌, ◌<◌, ◌≤◌, min, Bool, true, false, ◌⊎◌}
+use Rattle.std.specs.Prelude.{◌≡◌, ℕ, zero, suc, ◌<◌, ◌≤◌, min, Bool, true, false, ◌⊎◌}
 use Rattle.polymatroid.specs.Side.{room_but, plus, minus}
 use Rattle.floor.specs.Floor.{leaving, entering, stock, despatch, place, count}
 use Rattle.floor.specs.Meaning.{Meaning}

@@ -1,5 +1,5 @@
 -- The caps that a closing and a ceiling answer are those of their meanings.
-use Rattle.std.proofs.Common.{◌≡◌, ℕ, ◌^◌, ◌<◌, min, Bool, true, ◌&&◌, ltb, List, get_or, Ok, Err, Result, sym, refl, ap, ◌∙◌, arith}
+use Rattle.std.proofs.Common.{◌≡◌, ℕ, ◌^◌, ◌<◌, min, Bool, true, ◌&&◌, ltb, List, get_or, Ok, Result, sym, ap, ◌∙◌, arith}
 use Rattle.std.proofs.lemmas.Bool.Decides.{nat_tests}
 use Rattle.polymatroid.specs.Sets.{has}
 use Rattle.polymatroid.specs.Kinds.{kept, closing, ceiling}

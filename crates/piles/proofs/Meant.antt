@@ -1,5 +1,5 @@
 -- A closing closes its position and a ceiling bounds its side, and neither changes anything else.
-use Rattle.std.proofs.Common.{◌≡◌, ℕ, ◌^◌, ◌<◌, ◌≤◌, min, Bool, true, false, cond, not, ◌&&◌, ◌||◌, eqb, ltb, leb, List, length, get_or, set, Ok, Err, Result, sym, refl, ap, ◌∙◌, arith, get_or-set_other, get_or-set_same}
+use Rattle.std.proofs.Common.{◌≡◌, ℕ, ◌^◌, ◌<◌, min, Bool, true, false, cond, not, ◌&&◌, ◌||◌, eqb, ltb, leb, length, get_or, set, Ok, Err, Result, sym, refl, ap, ◌∙◌, arith, get_or-set_other, get_or-set_same}
 use lib.Bits.{bit_or}
 use Rattle.std.proofs.lemmas.Bool.Decides.{nat_tests}
 use Rattle.std.proofs.lemmas.Bool.{cond-true, ltb-true}
@@ -11,9 +11,7 @@ use Rattle.plant.specs.declared.refusals.Refusal.{Refusal}
 use Rattle.plant.specs.declared.refusals.Reason.TheVariants as reason
 use Rattle.floor.specs.Numbers.{top_cap}
 use Rattle.floor.specs.Floor.{side, sides, count}
-use Rattle.floor.specs.Meaning.{Meaning}
-use Rattle.layers.specs.Meanings.{listed}
-use Rattle.piles.specs.Settings.{pile_refusal, can_close, close_judged, closed_after, ceilings_after}
+use Rattle.piles.specs.Settings.{pile_refusal, can_close, closed_after, ceilings_after}
 use Rattle.piles.specs.Meant.{ClosingCloses, CeilingBounds}
 use Rattle.piles.proofs.Asked.{was_passed}
 

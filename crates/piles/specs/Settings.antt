@@ -1,5 +1,5 @@
 -- What setting a closing or a ceiling answers, and what is closed and what the ceilings are afterwards: a refusal changes nothing.
-use Rattle.std.specs.Prelude.{ℕ, ◌^◌, Bool, cond, ◌&&◌, List, set, Ok, Err, Result, bit_and, bit_or, bit_xor, nat_le, nat_lt, slice_index, slice_set}
+use Rattle.std.specs.Prelude.{ℕ, ◌^◌, Bool, cond, ◌&&◌, List, Ok, Err, Result, bit_and, bit_or, bit_xor, nat_le, nat_lt, slice_index, slice_set}
 use Rattle.plant.specs.Refusals.{refusal}
 use Rattle.plant.specs.declared.refusals.Reason.{Reason}
 use Rattle.plant.specs.declared.refusals.Reason.TheVariants as reason

@@ -1,20 +1,19 @@
 -- A call that does what the rules say over the tables does so over the plant, and keeps the promise.
-use Rattle.std.proofs.Common.{◌≡◌, [], vec_items, sym, ap, ◌∙◌, subst}
+use Rattle.std.proofs.Common.{◌≡◌, [], vec_items}
 use mathlib.Core.Path.{subst⁻¹}
 use Rattle.floor.specs.Meaning.{Meaning, Lawful}
 use Rattle.network.specs.Plans.{Feasible}
 use Rattle.tables.specs.Agreement.{Agrees}
 use Rattle.tables.specs.Tables.{meaning_in}
 use Rattle.calls.specs.Events.{Event, at}
-use Rattle.calls.specs.Does.{opened}
 use Rattle.calls.specs.Kept.{Kept}
 use Rattle.calls.proofs.Loads.{passed_is_plan}
 use Rattle.calls.proofs.Keeps.{calls_keep_the_promise, openings_keep_the_promise}
 use Rattle.agreement.proofs.Calls.{agreeing_plans_do_the_same}
 use Rattle.agreement.proofs.Plans.{feasible_back}
-use Rattle.planner.specs.Planning.{held_in, Did}
+use Rattle.planner.specs.Planning.{Did}
 use Rattle.plan.specs.declared.plan.Plan.{Plan}
-use Rattle.plan.specs.Plans.{state, Knows, Opens, DoesRight, Meets, Planned}
+use Rattle.plan.specs.Plans.{state, Knows, Opens, Meets, Planned}
 
 module _ {P : Type 0} (M : P → Meaning) (lawful : (x : P) → Lawful (M x)) where
   -- the trays of a plan are a plan of its plant

@@ -1,12 +1,11 @@
 -- A list of calls, one call after another.
-use Rattle.std.proofs.Common.{◌≡◌, List, [], ◌∷◌, ◌++◌, reverse, sym, refl, ap, ◌∙◌, subst, append_assoc, append-nil}
+use Rattle.std.proofs.Common.{◌≡◌, List, [], ◌∷◌, ◌++◌, reverse, refl, ◌∙◌, subst, append-nil}
 use mathlib.Core.Path.{subst⁻¹}
 use Rattle.std.proofs.lemmas.List.{reverse-append}
 use Rattle.floor.specs.Meaning.{Meaning}
-use Rattle.calls.specs.Events.{Event, History}
+use Rattle.calls.specs.Events.{Event}
 use Rattle.calls.specs.Kept.{Kept}
-use Rattle.calls.specs.Law.{Promise}
-use Rattle.plan.specs.Plans.{state, Knows, Opens, Meets}
+use Rattle.plan.specs.Plans.{state, Opens, Meets}
 use Rattle.plan.specs.Journal.{Recorded, Journal, Replays, Answered}
 use Rattle.plan.specs.declared.plan.Plan.{Plan}
 use Rattle.plan.specs.declared.journal.Call.{Call}

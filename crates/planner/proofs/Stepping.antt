@@ -1,5 +1,5 @@
 -- What a step does that finds a move: the trays can be moved along its path, and are a plan afterwards.
-use Rattle.std.proofs.Common.{◌≡◌, ℕ, ◌<◌, ◌≤◌, Bool, true, false, List, map, length, get_or, Some, None, vec_items, vec_len, Option, sym, refl, ap, ◌∙◌, subst, ap₂, arith}
+use Rattle.std.proofs.Common.{◌≡◌, ℕ, Bool, true, false, List, map, length, get_or, Some, vec_items, Option, sym, ap, ◌∙◌, ap₂, arith}
 use mathlib.Core.Path.{subst⁻¹, fun_ext}
 use Rattle.std.proofs.lemmas.List.{length-map}
 use Rattle.floor.specs.Meaning.{Meaning, Lawful}

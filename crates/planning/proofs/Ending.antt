@@ -1,5 +1,5 @@
 -- A plan that was run long enough is finished, and what is read of it is told of a plan that carries the most.
-use Rattle.std.proofs.Common.{◌≡◌, ℕ, ◌*◌, ◌<◌, ◌≤◌, Bool, true, false, cond, eqb, List, [], ◌∷◌, length, Ok, sym, refl, ap, ◌∙◌, subst, mul-le-mul, arith}
+use Rattle.std.proofs.Common.{◌≡◌, ℕ, ◌<◌, ◌≤◌, Bool, true, false, List, [], ◌∷◌, length, Ok, sym, refl, ap, ◌∙◌, subst, mul-le-mul, arith}
 use mathlib.Core.Path.{subst⁻¹}
 use mathlib.Core.Option.{none}
 use Rattle.std.proofs.lemmas.Bool.{eq-eqb, cond-true, and_from}
@@ -12,7 +12,7 @@ use Rattle.calls.specs.Kept.{Kept}
 use Rattle.calls.specs.Law.{Says, most_moves}
 use Rattle.calls.proofs.CutsRead.{cut_shown}
 use Rattle.calls.proofs.Moves.{finished_most}
-use Rattle.plan.specs.Plans.{state, Knows, Opens, Meets}
+use Rattle.plan.specs.Plans.{state, Opens, Meets}
 use Rattle.plan.specs.declared.plan.Plan.{Plan}
 use Rattle.planlines.specs.PlanLines.{plan_lines}
 use Rattle.planning.specs.Best.{BestTold, BestLines, EndedPlan}

@@ -1,5 +1,5 @@
 -- The refusals: each reason has a number, and a refusal of the input has a layer, a place and a law.
-use Rattle.std.specs.Prelude.{ℕ, Bool}
+use Rattle.std.specs.Prelude.{ℕ}
 use Rattle.plant.specs.declared.refusals.Reason.{Reason}
 use Rattle.plant.specs.declared.refusals.Reason.TheVariants as reason
 use Rattle.plant.specs.declared.refusals.Layer.{Layer}

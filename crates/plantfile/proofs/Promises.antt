@@ -1,5 +1,5 @@
 -- What the reader promises of the plant and the verdict, from how the file was judged.
-use Rattle.std.proofs.Common.{◌≡◌, ℕ, ◌<◌, ◌≤◌, ◌⊎◌, List, map, Ok, Err, vec_items, Result, sym, refl, ap, ◌∙◌, subst, inl, inr, arith}
+use Rattle.std.proofs.Common.{◌≡◌, ℕ, ◌<◌, ◌≤◌, List, map, Ok, Err, vec_items, Result, sym, refl, ap, ◌∙◌, subst, inl, inr, arith}
 use Rattle.plant.specs.declared.refusals.Reason.{Reason}
 use Rattle.plant.specs.declared.refusals.Reason.TheVariants as reason
 use Rattle.plant.specs.Refusals.{number_of}
@@ -18,15 +18,14 @@ use Rattle.plantformat.specs.Judge.{Draft, draft, judge}
 use Rattle.plantformat.specs.Promise.{PlantFile}
 use Rattle.plantformat.proofs.Verdicts.{ok_same}
 use Rattle.plantformat.proofs.Accepted.{accepted_files_encode, encodings_are_accepted}
-use Rattle.answers.specs.Content.{content, file_meaning}
+use Rattle.answers.specs.Content.{content}
 use Rattle.plantfile.specs.Steps.{Filled}
 use Rattle.plantfile.specs.Promise.{empty_draft, stopped, Judged, FileRefusal, Promised}
 use Rattle.plantfile.specs.declared.reading.Stop.{Stop}
 use Rattle.plantfile.specs.declared.reading.Stop.TheVariants.{Fault, Memory}
 use Rattle.limits.specs.Told.{told}
 use Rattle.answers.specs.declared.file_plant.FilePlant.{FilePlant}
-use Rattle.plantfile.specs.declared.reading.Verdict.{Verdict}
-use Rattle.plantfile.specs.declared.reading.Verdict.TheVariants.{Accepted, Refused, NoMemory}
+use Rattle.plantfile.specs.declared.reading.Verdict.TheVariants.{Accepted, NoMemory}
 
 -- every fault is told as a refusal that is listed
 unnamed_listed : (r : Reason) → 1 ≤ number_of r → number_of r < 9 → (at : ℕ) → FileRefusal (faults.told_of r at)

@@ -1,5 +1,5 @@
 -- A whole file, read record by record as it is judged.
-use Rattle.std.proofs.Common.{◌≡◌, ℕ, zero, suc, ◌+◌, ◌-◌, ◌<◌, ◌≤◌, Bool, true, false, cond, not, eqb, ltb, List, [], ◌∷◌, ◌++◌, map, length, Ok, Err, Result, sym, refl, ap, ◌∙◌, subst, arith}
+use Rattle.std.proofs.Common.{◌≡◌, ℕ, zero, suc, ◌-◌, ◌<◌, ◌≤◌, Bool, true, false, cond, not, eqb, ltb, List, [], ◌∷◌, ◌++◌, map, length, Ok, Err, Result, sym, refl, ap, ◌∙◌, subst, arith}
 use mathlib.Core.Path.{subst⁻¹}
 use Rattle.std.proofs.lemmas.Bool.{cond-true, cond-false, eq-eqb, ne_eqb}
 use Rattle.std.proofs.lemmas.List.{length-append}
@@ -10,17 +10,15 @@ use Rattle.plantformat.specs.declared.FloorFault.{FloorFault}
 use Rattle.plantformat.specs.declared.FloorFault.TheVariants as flo
 use Rattle.plantformat.specs.Numbers.{most_bytes}
 use Rattle.plantformat.specs.Rules.{lane_leads, keeps}
-use Rattle.plantformat.specs.Judge.{onward, unless, Part, Frame, Draft, draft, framed, headed, recorded, placed, lanes_may_come, limit_placed, limit_added, crowded, read_on, judge}
-use Rattle.plantformat.proofs.Verdicts.{unless_ok, unless_not_ok, onward_ok, with_rest_ok, ok_same}
+use Rattle.plantformat.specs.Judge.{onward, unless, Part, Draft, draft, framed, headed, recorded, placed, lanes_may_come, limit_placed, limit_added, crowded, read_on, judge}
+use Rattle.plantformat.proofs.Verdicts.{unless_ok, onward_ok, with_rest_ok, ok_same}
 use Rattle.plantformat.proofs.Frames.{framed_cut}
 use Rattle.plantformat.proofs.Keeping.{kept_head, kept_from}
 use Rattle.plantformat.proofs.Reading.{rest_shorter, step_kept}
 use Rattle.plantformat.proofs.Judged.{headed_ok}
-use Rattle.records.specs.Parts.{record_part, limit_part}
+use Rattle.records.specs.Parts.{record_part}
 use Rattle.limits.specs.Told.{told, limit_read}
-use Rattle.answers.specs.Content.{content}
 use Rattle.plantfile.specs.Steps.{next_judged, grown, keeps_draft, opened}
-use Rattle.answers.specs.declared.file_plant.FilePlant.{FilePlant}
 use Rattle.limits.specs.declared.Limit.TheVariants.{Table, Groups, Grades}
 use Rattle.records.specs.declared.bodies.Record as code
 use Rattle.records.specs.declared.bodies.Record.TheVariants as record_of

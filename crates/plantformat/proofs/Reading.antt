@@ -5,7 +5,6 @@ use Rattle.std.proofs.lemmas.Bool.{eqb-true}
 use Rattle.std.proofs.lemmas.List.{length-append, nil_from_length}
 use Rattle.plantformat.specs.declared.Lane.{Lane}
 use Rattle.plantformat.specs.declared.Kind.{Kind}
-use Rattle.plantformat.specs.declared.Kind.TheVariants as kind
 use Rattle.plantformat.specs.declared.FloorFault.{FloorFault}
 use Rattle.plantformat.specs.Records.{Limit}
 use Rattle.plantformat.specs.Encoding.{RecordBytes, LaneBytes, LimitBytes, Row}

@@ -2,17 +2,13 @@
 use Rattle.std.specs.Prelude.{ℕ}
 use Rattle.plant.specs.declared.refusals.Reason.{Reason}
 use Rattle.plant.specs.declared.refusals.Reason.TheVariants as reason
-use Rattle.plant.specs.declared.refusals.Layer.{Layer}
 use Rattle.plant.specs.declared.refusals.Layer.TheVariants as layer
 use Rattle.plant.specs.declared.refusals.Refusal.{Refusal}
 use Rattle.plant.specs.Refusals.{refusal, layer_of}
 use Rattle.plantformat.specs.declared.Law.{Law}
 use Rattle.plantformat.specs.declared.Law.TheVariants.{Empty, Grows, Bends}
-use Rattle.plantformat.specs.declared.FramingFault.{FramingFault}
 use Rattle.plantformat.specs.declared.FramingFault.TheVariants as framing
-use Rattle.plantformat.specs.declared.RecordFault.{RecordFault}
 use Rattle.plantformat.specs.declared.RecordFault.TheVariants as rec
-use Rattle.plantformat.specs.declared.LimitFault.{LimitFault}
 use Rattle.plantformat.specs.declared.LimitFault.TheVariants as lim
 use Rattle.plantformat.specs.declared.FloorFault.{FloorFault}
 use Rattle.plantformat.specs.declared.FloorFault.TheVariants as flo

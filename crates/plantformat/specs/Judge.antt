@@ -1,5 +1,5 @@
 -- How a plant file is judged: layer by layer, record by record from the front, the first fault decides.
-use Rattle.std.specs.Prelude.{◌≡◌, ℕ, zero, suc, ◌+◌, ◌-◌, ◌*◌, ◌/◌, ◌^◌, Bool, true, false, cond, not, ◌&&◌, ◌||◌, List, [], ◌∷◌, ◌++◌, length, take, drop, is_some, Some, None, Ok, Err, Option, Result, ◌==◌, nat_le, nat_lt, slice_index}
+use Rattle.std.specs.Prelude.{ℕ, zero, suc, ◌+◌, ◌-◌, ◌*◌, ◌/◌, ◌^◌, Bool, true, false, cond, not, ◌&&◌, ◌||◌, List, [], ◌∷◌, ◌++◌, length, take, drop, is_some, Some, None, Ok, Err, Option, Result, ◌==◌, nat_le, nat_lt, slice_index}
 use Rattle.polymatroid.specs.Tables.{rises, bows}
 use Rattle.floor.specs.Numbers.{most_lanes, most_on_side, top_cap}
 use Rattle.floor.specs.Floor.{side, width, leaving, entering}
@@ -14,7 +14,6 @@ use Rattle.plantformat.specs.declared.FramingFault.{FramingFault}
 use Rattle.plantformat.specs.declared.FramingFault.TheVariants as framing
 use Rattle.plantformat.specs.declared.RecordFault.{RecordFault}
 use Rattle.plantformat.specs.declared.RecordFault.TheVariants as rec
-use Rattle.plantformat.specs.declared.LimitFault.{LimitFault}
 use Rattle.plantformat.specs.declared.LimitFault.TheVariants as lim
 use Rattle.plantformat.specs.declared.FloorFault.{FloorFault}
 use Rattle.plantformat.specs.declared.FloorFault.TheVariants as flo

@@ -1,6 +1,6 @@
 -- What the records of a plant file define: a floor, and the cap of each set of lanes.
 -- A file has a head, then lanes, then limits; a head and a lane are the reader's own types.
-use Rattle.std.specs.Prelude.{ℕ, ◌+◌, ◌*◌, Bool, cond, List, [], ◌∷◌, length, Some, None, Option, ◌==◌, slice_index, slice_index_or}
+use Rattle.std.specs.Prelude.{ℕ, Bool, cond, List, [], ◌∷◌, length, Some, None, Option, ◌==◌, slice_index, slice_index_or}
 use Rattle.polymatroid.specs.Kinds.{plain, graded, grouped, Groups}
 use Rattle.floor.specs.Floor.{Floor, side, count, lane_at}
 use Rattle.floor.specs.Meaning.{Meaning}

@@ -1,10 +1,10 @@
 -- The rules that the records of a plant file keep: first as facts, then as tests that compute.
-use Rattle.std.specs.Prelude.{◌≡◌, ℕ, zero, suc, ◌-◌, ◌*◌, ◌^◌, ◌<◌, ◌≤◌, Bool, true, false, cond, not, ◌&&◌, ltb, leb, List, [], ◌∷◌, length, get_or, is_some, Some, None, Option, ◌==◌, ◌≢◌, nat_le, nat_lt, slice_index, slice_index_or}
+use Rattle.std.specs.Prelude.{◌≡◌, ℕ, suc, ◌-◌, ◌*◌, ◌^◌, ◌<◌, ◌≤◌, Bool, true, cond, not, ◌&&◌, ltb, leb, List, [], ◌∷◌, length, get_or, is_some, ◌==◌, ◌≢◌, nat_le, nat_lt, slice_index, slice_index_or}
 use Rattle.polymatroid.specs.Side.{Caps}
 use Rattle.polymatroid.specs.Tables.{every, broken}
 use Rattle.polymatroid.specs.Kinds.{Falls}
 use Rattle.floor.specs.Numbers.{most_stations, most_lanes, most_on_side, top_cap}
-use Rattle.floor.specs.Floor.{Floor, sides, width}
+use Rattle.floor.specs.Floor.{width}
 use Rattle.plantformat.specs.Numbers.{top_lane, most_groups}
 use Rattle.plantformat.specs.declared.Head.{Head}
 use Rattle.plantformat.specs.declared.Lane.{Lane}

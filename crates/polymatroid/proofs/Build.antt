@@ -1,13 +1,12 @@
 -- From a set to a larger one, one lane at a time.
-use Rattle.std.proofs.Common.{◌≡◌, ℕ, zero, suc, ◌+◌, ◌^◌, ◌<◌, ◌≤◌, Bool, true, false, cond, not, ◌&&◌, ◌||◌, eqb, ltb, ◌⊎◌, sym, refl, ap, ◌∙◌, subst, inl, inr, arith}
+use Rattle.std.proofs.Common.{◌≡◌, ℕ, zero, suc, ◌^◌, ◌<◌, ◌≤◌, Bool, true, false, cond, ◌&&◌, ◌||◌, eqb, ltb, refl, ap, ◌∙◌, subst, arith}
 use mathlib.Core.Path.{subst⁻¹}
-use lib.Bits.{bit_and, bit_or, or_lt, and_lt}
-use Rattle.std.proofs.lemmas.Nat.{pow_pos, pow_below}
+use lib.Bits.{bit_or, or_lt}
+use Rattle.std.proofs.lemmas.Nat.{pow_below}
 use Rattle.std.proofs.lemmas.Bool.Decides.{nat_tests}
-use Rattle.std.proofs.lemmas.Bool.{cases_Bool, cases_lt, cases_eq, both_ways}
-use Rattle.polymatroid.specs.Sets.{has, code}
-use Rattle.polymatroid.specs.Side.{In, Out, Caps}
-use Rattle.polymatroid.proofs.Codes.{has_or, has_and, has_one, has_none, has_past, same_sets}
+use Rattle.polymatroid.specs.Sets.{has}
+use Rattle.polymatroid.specs.Side.{In, Out}
+use Rattle.polymatroid.proofs.Codes.{has_or, has_one, same_sets}
 
 -- a set with one lane more
 pub has_plus : (X p q : ℕ) → has (bit_or X (2 ^ p)) q ≡ (has X q || eqb q p)

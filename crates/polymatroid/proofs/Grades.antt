@@ -1,18 +1,14 @@
 -- Plain sides and grades.
-use Rattle.std.proofs.Common.{◌≡◌, ℕ, zero, suc, ◌+◌, ◌-◌, ◌*◌, ◌^◌, ◌<◌, ◌≤◌, min, Bool, true, false, cond, not, ◌&&◌, ◌||◌, eqb, ltb, leb, ◌⊎◌, sym, refl, ap, ◌∙◌, subst, inl, inr, arith}
-use mathlib.Core.Path.{subst⁻¹}
+use Rattle.std.proofs.Common.{◌≡◌, ℕ, zero, suc, ◌+◌, ◌-◌, ◌*◌, ◌^◌, ◌<◌, ◌≤◌, min, cond, ltb, refl, ap, ◌∙◌, inl, inr, arith}
 use lib.Bits.{bit_and, bit_or, or_lt, and_lt}
-use Rattle.std.proofs.lemmas.Nat.{pow_pos, pow_below}
 use Rattle.std.proofs.lemmas.Bool.Decides.{nat_tests}
-use Rattle.std.proofs.lemmas.Bool.{cases_Bool, cases_lt, cases_eq, both_ways, eqb-true, eqb-false, eq-eqb}
+use Rattle.std.proofs.lemmas.Bool.{cases_eq}
 use Rattle.polymatroid.specs.Sets.{has, code}
-use Rattle.polymatroid.specs.Finite.{least}
-use Rattle.polymatroid.specs.Side.{load, In, Out, Caps, Within}
-use Rattle.polymatroid.proofs.Codes.{has_or, has_and, has_one, has_none, has_past, has_code, code_below, same_sets}
-use Rattle.polymatroid.proofs.Side.{load_modular, load_same}
-use Rattle.polymatroid.proofs.Unions.{cap_mono}
-use Rattle.polymatroid.specs.Laws.{Empty, Grows, Bends, Below, FourLaws}
-use Rattle.polymatroid.proofs.Build.{has_plus, plus_below, plus_there}
+use Rattle.polymatroid.specs.Side.{load, In, Caps}
+use Rattle.polymatroid.proofs.Codes.{has_or, has_and, has_none, has_code, code_below, same_sets}
+use Rattle.polymatroid.proofs.Side.{load_modular}
+use Rattle.polymatroid.specs.Laws.{Bends}
+use Rattle.polymatroid.proofs.Build.{has_plus, plus_below}
 use Rattle.polymatroid.specs.Kinds.{plain, firsts, size, graded, Falls, PlainKeeps, GradesKeep, RisingBreaks}
 
 -- ---- plain sides

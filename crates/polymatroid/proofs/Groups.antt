@@ -1,20 +1,10 @@
 -- Groups.
-use Rattle.std.proofs.Common.{◌≡◌, ℕ, zero, suc, ◌+◌, ◌-◌, ◌*◌, ◌^◌, ◌<◌, ◌≤◌, min, Bool, true, false, cond, not, ◌&&◌, ◌||◌, eqb, ltb, leb, ◌⊎◌, sym, refl, ap, ◌∙◌, subst, inl, inr, arith}
-use mathlib.Core.Path.{subst⁻¹}
-use lib.Bits.{bit_and, bit_or, or_lt, and_lt}
-use Rattle.std.proofs.lemmas.Nat.{pow_pos, pow_below}
+use Rattle.std.proofs.Common.{◌≡◌, ℕ, zero, suc, ◌+◌, ◌<◌, ◌≤◌, Bool, true, false, cond, eqb, ◌⊎◌, ap, ◌∙◌, inl, inr, arith}
 use Rattle.std.proofs.lemmas.Bool.Decides.{nat_tests}
-use Rattle.std.proofs.lemmas.Bool.{cases_Bool, cases_lt, cases_eq, both_ways, eqb-true, eqb-false, eq-eqb}
-use Rattle.polymatroid.specs.Sets.{has, code}
-use Rattle.polymatroid.specs.Finite.{least}
-use Rattle.polymatroid.specs.Side.{load, In, Out, Caps, Within}
-use Rattle.polymatroid.proofs.Codes.{has_or, has_and, has_one, has_none, has_past, has_code, code_below, same_sets}
-use Rattle.polymatroid.proofs.Side.{load_modular, load_same}
-use Rattle.polymatroid.proofs.Unions.{cap_mono}
-use Rattle.polymatroid.specs.Laws.{Empty, Grows, Bends, Below, FourLaws}
-use Rattle.polymatroid.proofs.Build.{has_plus, plus_below, plus_there}
+use Rattle.std.proofs.lemmas.Bool.{cases_Bool, cases_lt}
+use Rattle.polymatroid.specs.Side.{load, Caps}
 use Rattle.polymatroid.specs.Kinds.{ceiling, sum_to, Groups, Ordered, own, under, passed, depth, worth, grouped, GroupsMean, GroupsKeep}
-use Rattle.polymatroid.proofs.Layers.{ceiling_caps, zero_caps, plus_caps, sum_caps, sum_top, sum_same}
+use Rattle.polymatroid.proofs.Layers.{ceiling_caps, zero_caps, plus_caps, sum_caps, sum_same}
 use Rattle.polymatroid.proofs.Grades.{load_caps}
 
 if_caps : (k : ℕ) (b : Bool) (cap : ℕ → ℕ) → Caps k cap → Caps k (λ X. cond b (cap X) 0)

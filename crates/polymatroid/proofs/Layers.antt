@@ -1,18 +1,12 @@
 -- Closing and ceiling keep the laws; so do sums.
-use Rattle.std.proofs.Common.{◌≡◌, ℕ, zero, suc, ◌+◌, ◌-◌, ◌*◌, ◌^◌, ◌<◌, ◌≤◌, min, Bool, true, false, cond, not, ◌&&◌, ◌||◌, eqb, ltb, leb, ◌⊎◌, sym, refl, ap, ◌∙◌, subst, inl, inr, arith}
-use mathlib.Core.Path.{subst⁻¹}
+use Rattle.std.proofs.Common.{◌≡◌, ℕ, zero, suc, ◌+◌, ◌*◌, ◌^◌, ◌<◌, ◌≤◌, Bool, not, ◌&&◌, refl, ap, ◌∙◌, arith}
 use lib.Bits.{bit_and, bit_or, or_lt, and_lt}
-use Rattle.std.proofs.lemmas.Nat.{pow_pos, pow_below}
-use Rattle.std.proofs.lemmas.Bool.Decides.{nat_tests}
-use Rattle.std.proofs.lemmas.Bool.{cases_Bool, cases_lt, cases_eq, both_ways, eqb-true, eqb-false, eq-eqb}
-use Rattle.polymatroid.specs.Sets.{has, code}
-use Rattle.polymatroid.specs.Finite.{least}
-use Rattle.polymatroid.specs.Side.{load, In, Out, Caps, Within}
-use Rattle.polymatroid.proofs.Codes.{has_or, has_and, has_one, has_none, has_past, has_code, code_below, same_sets}
-use Rattle.polymatroid.proofs.Side.{load_modular, load_same}
+use Rattle.std.proofs.lemmas.Nat.{pow_pos}
+use Rattle.polymatroid.specs.Sets.{has}
+use Rattle.polymatroid.specs.Side.{Caps}
+use Rattle.polymatroid.proofs.Codes.{has_or, has_and, has_none, has_code, code_below, same_sets}
 use Rattle.polymatroid.proofs.Unions.{cap_mono}
-use Rattle.polymatroid.specs.Laws.{Empty, Grows, Bends, Below, FourLaws}
-use Rattle.polymatroid.proofs.Build.{has_plus, plus_below, plus_there}
+use Rattle.polymatroid.proofs.Build.{has_plus}
 use Rattle.polymatroid.specs.Kinds.{kept, closing, ceiling, sum_to, ClosingKeeps, CeilingKeeps}
 
 -- ---- closing

@@ -1,21 +1,14 @@
 -- The numbers of the files, pairs of lanes, layers, and the sweep over groups.
-use Rattle.std.proofs.Common.{◌≡◌, ℕ, zero, suc, ◌+◌, ◌-◌, ◌*◌, ◌^◌, ◌<◌, ◌≤◌, min, Bool, true, false, cond, not, ◌&&◌, ◌||◌, eqb, ltb, leb, ◌⊎◌, sym, refl, ap, ◌∙◌, subst, inl, inr, arith}
-use mathlib.Core.Path.{subst⁻¹}
-use lib.Bits.{bit_and, bit_or, or_lt, and_lt}
-use Rattle.std.proofs.lemmas.Nat.{pow_pos, pow_below}
+use Rattle.std.proofs.Common.{◌≡◌, ℕ, zero, suc, ◌+◌, ◌-◌, ◌*◌, ◌^◌, ◌<◌, ◌≤◌, min, Bool, true, false, cond, ◌&&◌, eqb, leb, sym, refl, ap, inl, inr, arith}
+use lib.Bits.{bit_or}
 use Rattle.std.proofs.lemmas.Bool.Decides.{nat_tests}
-use Rattle.std.proofs.lemmas.Bool.{cases_Bool, cases_lt, cases_eq, both_ways, eqb-true, eqb-false, eq-eqb}
-use Rattle.polymatroid.specs.Sets.{has, code}
-use Rattle.polymatroid.specs.Finite.{least}
-use Rattle.polymatroid.specs.Side.{load, In, Out, Caps, Within}
-use Rattle.polymatroid.proofs.Codes.{has_or, has_and, has_one, has_none, has_past, has_code, code_below, same_sets}
-use Rattle.polymatroid.proofs.Side.{load_modular, load_same}
-use Rattle.polymatroid.proofs.Unions.{cap_mono}
-use Rattle.polymatroid.specs.Laws.{Empty, Grows, Bends, Below, FourLaws}
-use Rattle.polymatroid.proofs.Build.{has_plus, plus_below, plus_there}
-use Rattle.polymatroid.specs.Tables.{every, bends_at, bows, broken, Named}
-use Rattle.polymatroid.specs.Kinds.{kept, closing, ceiling, plain, graded, Falls, sum_to, Groups, Ordered, own, under, passed, worth, grouped}
-use Rattle.polymatroid.specs.More.{Ranges, RangesHold, pairs, PairsSuffice, ClosedAddsNothing, LayersSwap, reached, swept, SweepAgrees}
+use Rattle.std.proofs.lemmas.Bool.{cases_lt, cases_eq, eq-eqb}
+use Rattle.polymatroid.proofs.Codes.{same_sets}
+use Rattle.polymatroid.specs.Laws.{FourLaws}
+use Rattle.polymatroid.proofs.Build.{has_plus, plus_below}
+use Rattle.polymatroid.specs.Tables.{every, bends_at, bows}
+use Rattle.polymatroid.specs.Kinds.{kept, closing, ceiling, plain, graded, sum_to, Groups, Ordered, own, under, passed, worth, grouped}
+use Rattle.polymatroid.specs.More.{RangesHold, pairs, PairsSuffice, ClosedAddsNothing, LayersSwap, reached, swept, SweepAgrees}
 use Rattle.polymatroid.proofs.Tables.{every_at, every_from, named}
 use Rattle.polymatroid.proofs.Layers.{has_kept, kept_below, sum_same}
 use Rattle.polymatroid.proofs.Grades.{plain_keeps, grades_keep}

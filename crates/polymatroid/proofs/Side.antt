@@ -1,13 +1,13 @@
 -- One side: loads are modular, tight sets uncross, and the smallest tight set.
-use Rattle.std.proofs.Common.{◌≡◌, ℕ, zero, suc, ◌+◌, ◌-◌, ◌^◌, ◌<◌, ◌≤◌, Bool, true, false, cond, not, ◌&&◌, ◌||◌, eqb, ◌⊎◌, sym, refl, ap, ◌∙◌, inl, inr, arith}
+use Rattle.std.proofs.Common.{◌≡◌, ℕ, zero, suc, ◌+◌, ◌^◌, ◌<◌, ◌≤◌, Bool, true, false, cond, ◌&&◌, eqb, sym, refl, ap, ◌∙◌, inl, inr, arith}
 use lib.Bits.{bit_and, bit_or, and_le_l, and_lt, or_lt}
-use Rattle.std.proofs.lemmas.Nat.{pow_below, pow_pos}
+use Rattle.std.proofs.lemmas.Nat.{pow_below}
 use Rattle.std.proofs.lemmas.Bool.Decides.{nat_tests}
-use Rattle.std.proofs.lemmas.Bool.{cases_Bool, cases_lt}
+use Rattle.std.proofs.lemmas.Bool.{cases_lt}
 use Rattle.polymatroid.specs.Sets.{has, without}
-use Rattle.polymatroid.specs.Side.{load, In, Out, Caps, Within, Tight, room, room_but, tight_set, Full, plus, minus, TightFacts, TightSets}
+use Rattle.polymatroid.specs.Side.{load, In, Caps, Within, Tight, tight_set, plus, minus, TightSets}
 use Rattle.polymatroid.proofs.Codes.{has_or, has_and, has_one, has_without, has_past, without_below, same_sets}
-use Rattle.polymatroid.proofs.Finite.{first_le, first_passes, first_before, least_le, least_at}
+use Rattle.polymatroid.proofs.Finite.{first_passes, first_before}
 
 pub load_modular : (w : ℕ → ℕ) (k X Y : ℕ) → load w k (bit_or X Y) + load w k (bit_and X Y) ≡ load w k X + load w k Y
 unfolding load

@@ -1,14 +1,12 @@
 -- The lane-by-lane tests of a table decide the laws.
-use Rattle.std.proofs.Common.{◌≡◌, ℕ, zero, suc, ◌+◌, ◌^◌, ◌<◌, ◌≤◌, Bool, true, false, cond, not, ◌&&◌, ◌||◌, eqb, ltb, leb, ◌⊎◌, sym, refl, ap, ◌∙◌, subst, inl, inr, arith}
-use mathlib.Core.Path.{subst⁻¹}
+use Rattle.std.proofs.Common.{◌≡◌, ℕ, zero, suc, ◌+◌, ◌^◌, ◌<◌, ◌≤◌, Bool, true, false, ◌||◌, eqb, ◌⊎◌, refl, ap, ◌∙◌, inl, inr, arith}
 use lib.Bits.{bit_and, bit_or, or_lt, and_lt}
-use Rattle.std.proofs.lemmas.Nat.{pow_pos, pow_below}
 use Rattle.std.proofs.lemmas.Bool.Decides.{nat_tests}
-use Rattle.std.proofs.lemmas.Bool.{cases_Bool, cases_lt, cases_eq, both_ways, eqb-true, leb-true, le-leb, eq-eqb}
-use Rattle.polymatroid.specs.Sets.{has, code}
-use Rattle.polymatroid.specs.Side.{In, Out, Caps}
-use Rattle.polymatroid.proofs.Codes.{has_or, has_and, has_one, has_none, has_past, same_sets}
-use Rattle.polymatroid.specs.Laws.{Empty, Grows, Bends}
+use Rattle.std.proofs.lemmas.Bool.{cases_Bool, cases_eq, both_ways, eqb-true, le-leb, eq-eqb}
+use Rattle.polymatroid.specs.Sets.{has}
+use Rattle.polymatroid.specs.Side.{In, Out}
+use Rattle.polymatroid.proofs.Codes.{has_or, has_and, same_sets}
+use Rattle.polymatroid.specs.Laws.{Grows, Bends}
 use Rattle.polymatroid.specs.Tables.{every, rises_at, bends_at, rises, bows, broken, Named, TablesTested, TestsDecide}
 use Rattle.polymatroid.proofs.Build.{has_plus, plus_below, plus_there, build}
 

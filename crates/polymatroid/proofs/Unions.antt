@@ -1,12 +1,12 @@
 -- A set whose positions have tight sets inside it is tight; and a cap grows with its set.
-use Rattle.std.proofs.Common.{◌≡◌, ℕ, zero, suc, ◌+◌, ◌^◌, ◌<◌, ◌≤◌, Bool, true, false, cond, not, ◌&&◌, ◌||◌, eqb, ◌⊎◌, sym, refl, ap, ◌∙◌, inl, inr, arith}
-use lib.Bits.{bit_and, bit_or, or_lt}
+use Rattle.std.proofs.Common.{◌≡◌, ℕ, zero, suc, ◌^◌, ◌<◌, ◌≤◌, true, false, cond, ◌&&◌, ◌||◌, ◌⊎◌, sym, refl, ap, ◌∙◌, inl, inr, arith}
+use lib.Bits.{bit_or, or_lt}
 use Rattle.std.proofs.lemmas.Nat.{pow_pos, pow_below}
 use Rattle.std.proofs.lemmas.Bool.Decides.{nat_tests}
-use Rattle.std.proofs.lemmas.Bool.{cases_Bool, cases_lt, cases_eq, both_ways}
+use Rattle.std.proofs.lemmas.Bool.{cases_Bool, cases_eq, both_ways}
 use Rattle.polymatroid.specs.Sets.{has}
-use Rattle.polymatroid.specs.Side.{load, In, Out, Caps, Within, Tight}
-use Rattle.polymatroid.proofs.Codes.{has_or, has_one, has_none, has_past, same_sets}
+use Rattle.polymatroid.specs.Side.{load, In, Caps, Within, Tight}
+use Rattle.polymatroid.proofs.Codes.{has_or, has_one, has_none, same_sets}
 use Rattle.polymatroid.proofs.Side.{tight_or}
 
 load_none : (w : ℕ → ℕ) (k : ℕ) → load w k 0 ≡ 0

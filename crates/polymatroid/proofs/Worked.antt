@@ -1,5 +1,5 @@
 -- The worked tables and grades, by evaluation.
-use Rattle.std.proofs.Common.{◌≡◌, refl}
+use Rattle.std.proofs.Common.{refl}
 use Rattle.polymatroid.specs.Sets.{has}
 use Rattle.polymatroid.specs.Side.{load}
 use Rattle.polymatroid.specs.Tables.{every, rises_at, bends_at, rises, bows, broken}

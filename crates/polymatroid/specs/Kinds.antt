@@ -1,10 +1,8 @@
 -- The ways of giving caps.
-use Rattle.std.specs.Prelude.{◌≡◌, ℕ, zero, suc, ◌+◌, ◌*◌, ◌^◌, ◌<◌, ◌≤◌, min, Bool, true, false, cond, not, ◌&&◌, ◌||◌, ◌==◌}
+use Rattle.std.specs.Prelude.{◌≡◌, ℕ, zero, suc, ◌+◌, ◌*◌, ◌<◌, ◌≤◌, min, Bool, cond, not, ◌&&◌, ◌==◌}
 use Rattle.polymatroid.specs.Sets.{has, code}
-use Rattle.polymatroid.specs.Finite.{least}
-use Rattle.polymatroid.specs.Side.{load, Caps, Within}
-use Rattle.polymatroid.specs.Laws.{Empty, Bends, Below, FourLaws}
-use Rattle.polymatroid.specs.Tables.{every}
+use Rattle.polymatroid.specs.Side.{load}
+use Rattle.polymatroid.specs.Laws.{Bends, FourLaws}
 
 -- ---- layers over caps
 

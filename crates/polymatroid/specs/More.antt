@@ -1,8 +1,6 @@
 -- What plants that are read from files lean on: the laws at the bounds of the files, half the pairs of a table, layers, groups in one sweep.
-use Rattle.std.specs.Prelude.{◌≡◌, ℕ, zero, suc, ◌+◌, ◌-◌, ◌*◌, ◌^◌, ◌<◌, ◌≤◌, min, Bool, true, false, cond, not, ◌&&◌, ◌||◌, ◌==◌, bit_or}
-use Rattle.polymatroid.specs.Sets.{has, code}
-use Rattle.polymatroid.specs.Side.{load, Caps, Within, room}
-use Rattle.polymatroid.specs.Laws.{Empty, Bends, Below, FourLaws}
+use Rattle.std.specs.Prelude.{◌≡◌, ℕ, zero, suc, ◌+◌, ◌-◌, ◌^◌, ◌<◌, ◌≤◌, min, Bool, true, cond, ◌==◌, bit_or}
+use Rattle.polymatroid.specs.Laws.{Below, FourLaws}
 use Rattle.polymatroid.specs.Tables.{every, bends_at, bows, broken}
 use Rattle.polymatroid.specs.Kinds.{closing, ceiling, plain, graded, Falls, Groups, Ordered, own, grouped}
 

@@ -1,5 +1,5 @@
 -- One side of a station: k positions, a cap for each set of them, and the trays at each position.
-use Rattle.std.specs.Prelude.{◌≡◌, ℕ, zero, suc, ◌+◌, ◌-◌, ◌^◌, ◌<◌, ◌≤◌, Bool, true, false, cond, not, ◌&&◌, ◌==◌, ◌≢◌, bit_and, bit_or}
+use Rattle.std.specs.Prelude.{◌≡◌, ℕ, zero, suc, ◌+◌, ◌-◌, ◌^◌, ◌<◌, ◌≤◌, true, false, cond, not, ◌&&◌, ◌==◌, ◌≢◌, bit_and, bit_or}
 use Rattle.polymatroid.specs.Sets.{has}
 use Rattle.polymatroid.specs.Finite.{first, least}
 

@@ -1,8 +1,7 @@
 -- The sign that is given, by the rules for the two signs.
-use Rattle.std.proofs.Common.{◌≡◌, ℕ, Bool, true, false, cond, Some, None, Option, ap, ◌∙◌}
+use Rattle.std.proofs.Common.{◌≡◌, ℕ, Bool, true, false, cond, Some, None, ap, ◌∙◌}
 use Rattle.network.specs.States.{State, Plus, Minus}
 use Rattle.labels.specs.Labels.{gift}
-use Rattle.labels.specs.declared.Sign.{Sign}
 use Rattle.labels.specs.declared.Sign.TheVariants as sign
 
 module _ (r : State → State → Bool) (x : State) (y : ℕ) where

@@ -1,14 +1,13 @@
 -- How a labelling by rooms comes out is how a step comes out: with its move, or with none.
-use Rattle.std.proofs.Common.{◌≡◌, ℕ, suc, ◌<◌, ◌≤◌, Bool, true, false, List, length, get_or, Some, sym, refl, ap, ◌∙◌, subst, arith}
-use mathlib.Core.Path.{subst⁻¹}
-use mathlib.Core.Option.{Option, none, some}
+use Rattle.std.proofs.Common.{◌≡◌, ℕ, suc, ◌<◌, ◌≤◌, true, false, List, length, get_or, Some, sym, refl, ap, ◌∙◌, arith}
+use mathlib.Core.Option.{none, some}
 use Rattle.std.specs.declared.option.Option as found
 use Rattle.floor.specs.Meaning.{Meaning, Lawful}
 use Rattle.network.specs.Plans.{Feasible}
 use Rattle.network.specs.States.{State, Pole, Plus, Minus, OnFloor, lane_number, holder}
 use Rattle.labelling.specs.Amount.{amount_of}
 use Rattle.labelling.specs.Augmenting.{along, Augments}
-use Rattle.labelling.specs.Steps.{Move, step, move_of, outcome, labels, table_of, row}
+use Rattle.labelling.specs.Steps.{step, move_of, outcome, labels, table_of, row}
 use Rattle.labelling.specs.Table.{Mark, mark, Ended, Finished, path}
 use Rattle.labelling.proofs.FirstPath.{first_shortest_path}
 use Rattle.labelling.proofs.Rows.{row_length}

@@ -1,22 +1,21 @@
 -- Accepted sheets are the encodings of settings that may be set.
-use Rattle.std.proofs.Common.{◌≡◌, ℕ, zero, suc, ◌+◌, ◌-◌, ◌<◌, ◌≤◌, Bool, true, false, cond, ◌&&◌, ◌||◌, eqb, ltb, leb, List, [], ◌∷◌, ◌++◌, length, get_or, take, drop, Ok, Err, Result, sym, refl, ap, ◌∙◌, subst, arith}
-use mathlib.Core.Path.{subst⁻¹}
+use Rattle.std.proofs.Common.{◌≡◌, ℕ, zero, suc, ◌+◌, ◌-◌, ◌≤◌, Bool, true, false, cond, ◌||◌, eqb, ltb, leb, List, [], ◌∷◌, ◌++◌, length, take, drop, Ok, Err, Result, sym, refl, ap, ◌∙◌, subst, arith}
 use Rattle.std.specs.List.{AllByRecursion as All}
 use Rattle.std.proofs.lemmas.Bool.Decides.{nat_tests}
 use Rattle.std.proofs.lemmas.List.{length-take, length-drop, length-append, get_or-take, get_or_append_left, take-append-drop, drop-take, drop-append-le, take_at, drop_at, nil_from_length}
-use Rattle.std.proofs.lemmas.Bool.{eqb-true, cond-true, lt-ltb, le-leb, ltb-false, le-ltb, or_parts, or_from}
+use Rattle.std.proofs.lemmas.Bool.{eqb-true, lt-ltb, le-leb, ltb-false, le-ltb, or_parts, or_from}
 use Rattle.plant.specs.declared.refusals.Refusal.{Refusal}
 use Rattle.plant.specs.declared.refusals.Reason.TheVariants as reason
 use Rattle.floor.specs.Numbers.{top_cap}
-use Rattle.floor.specs.Floor.{Floor, sides, width}
+use Rattle.floor.specs.Floor.{Floor, sides}
 use Rattle.plantformat.specs.Bytes.{word}
 use Rattle.plantformat.specs.Encoding.{Row}
-use Rattle.plantformat.specs.Judge.{onward, unless, cut_short}
+use Rattle.plantformat.specs.Judge.{onward, cut_short}
 use Rattle.plantformat.proofs.Verdicts.{ok_same, onward_ok, unless_ok, unless_passed}
-use Rattle.piles.specs.Settings.{can_close, close_judged, ceiling_judged, pile_refusal}
+use Rattle.piles.specs.Settings.{can_close, pile_refusal}
 use Rattle.sheets.specs.declared.reading.Setting.{Setting}
 use Rattle.sheets.specs.declared.reading.Setting.TheVariants.{Close, Lower}
-use Rattle.sheets.specs.Sheet.{most_sheet_bytes, sheet_refusal, body_read, placed_at, setting_judged, setting_read, next_judged, before, sheet_read}
+use Rattle.sheets.specs.Sheet.{most_sheet_bytes, body_read, placed_at, setting_judged, setting_read, next_judged, before, sheet_read}
 use Rattle.sheets.specs.Promise.{SettingBytes, Allowed, AcceptedSheetsEncode, SheetsAreAccepted}
 use Rattle.sheets.proofs.Bytes.{Says, body_says, body_said, bytes_say, bytes_said}
 use Rattle.sheets.proofs.Walks.{read_none, read_more}

@@ -1,14 +1,14 @@
 -- A sheet read record by record: what one record more changes of what is left to read.
-use Rattle.std.proofs.Common.{◌≡◌, ℕ, zero, suc, ◌-◌, ◌<◌, ◌≤◌, Bool, true, false, cond, eqb, List, [], ◌∷◌, length, take, drop, Ok, Err, Result, sym, refl, ap, ◌∙◌, arith, length-drop}
+use Rattle.std.proofs.Common.{◌≡◌, ℕ, zero, suc, ◌-◌, ◌<◌, ◌≤◌, false, List, [], length, take, drop, Ok, Err, Result, sym, refl, ap, ◌∙◌, arith, length-drop}
 use Rattle.std.proofs.lemmas.Bool.Decides.{nat_tests}
 use Rattle.std.proofs.lemmas.Bool.{eq-eqb, ne_eqb, cond-true, cond-false}
 use Rattle.plant.specs.declared.refusals.Refusal.{Refusal}
 use Rattle.floor.specs.Floor.{Floor}
 use Rattle.plantformat.specs.Bytes.{word}
-use Rattle.plantformat.specs.Judge.{onward, unless, cut_short}
+use Rattle.plantformat.specs.Judge.{onward, cut_short}
 use Rattle.plantformat.proofs.Verdicts.{onward_ok, unless_ok}
 use Rattle.sheets.specs.declared.reading.Setting.{Setting}
-use Rattle.sheets.specs.Sheet.{body_read, setting_read, setting_judged, next_judged, before, sheet_read, verdict, Settings, setting_made, all_made, made_of}
+use Rattle.sheets.specs.Sheet.{body_read, setting_read, setting_judged, next_judged, before, sheet_read, verdict, Settings, setting_made, made_of}
 
 module _ (F : Floor) (total : ℕ) where
   -- what follows a record that was read

@@ -1,5 +1,5 @@
 -- Tables mean a lawful plant: their facts are the rules of a floor and the laws of its caps.
-use Rattle.std.proofs.Common.{◌≡◌, ℕ, ◌^◌, ◌<◌, Bool, true, false, not, leb, vec_len, sym, ap₂, arith}
+use Rattle.std.proofs.Common.{◌≡◌, ℕ, ◌^◌, ◌<◌, true, false, not, leb, vec_len, sym, ap₂, arith}
 use Rattle.std.proofs.lemmas.Bool.{leb-true}
 use Rattle.floor.specs.Floor.{FloorRules, count, side, width}
 use Rattle.floor.specs.Numbers.{top_cap}

@@ -1,9 +1,7 @@
 -- A pile that a sheet was set on means what the plant means on that day.
-use Rattle.std.proofs.Common.{◌≡◌, ℕ, List, replicate, Ok, Err, vec_items, Result, Vec, ap, ◌∙◌, subst, ap₂, arith}
-use mathlib.Core.Path.{subst⁻¹}
+use Rattle.std.proofs.Common.{◌≡◌, ℕ, List, Ok, Err, vec_items, Result, Vec, ap, ◌∙◌, subst, arith}
 use Rattle.std.specs.declared.alloc.Global.{Global}
 use Rattle.floor.specs.Meaning.{Meaning}
-use Rattle.floor.specs.Numbers.{top_cap}
 use Rattle.plant.specs.declared.refusals.Refusal as refused
 use Rattle.piles.specs.declared.ceiling.Ceiling.{Ceiling}
 use Rattle.piles.specs.declared.closing.Closing.{Closing}

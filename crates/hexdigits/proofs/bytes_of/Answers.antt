@@ -1,5 +1,5 @@
 -- A turn writes the byte of one pair more.
-use Rattle.std.proofs.Common.{◌≡◌, ◌+◌, length, vec_items, vec_len, arith, rules}
+use Rattle.std.proofs.Common.{◌≡◌, length, vec_items, arith, rules}
 use Rattle.hexdigits.proofs.Pairs.{pairs_more}
 use Rattle.hexdigits.proofs.bytes_of.Goals as goal
 

@@ -1,5 +1,5 @@
 -- The trays that are moved are those that the vector then holds.
-use Rattle.std.proofs.Common.{◌≡◌, ℕ, map, length, get_or, drop, refl, ap, ◌∙◌, arith}
+use Rattle.std.proofs.Common.{◌≡◌, map, length, get_or, drop, refl, ap, ◌∙◌, arith}
 use Rattle.labelling.specs.Steps.{shifted}
 use Rattle.labels.specs.Labels.{signed_state}
 use Rattle.calls.specs.Events.{at}

@@ -1,5 +1,5 @@
 -- The buffers are of the right lengths, and what is shown is what they then hold.
-use Rattle.std.proofs.Common.{◌≡◌, length, drop, vec_items, vec_len, sym, ap, ◌∙◌, arith, rules}
+use Rattle.std.proofs.Common.{◌≡◌, length, drop, vec_items, vec_len, ◌∙◌, arith, rules}
 use mathlib.Core.Path.{subst⁻¹}
 use Rattle.std.proofs.lemmas.Result.{IfOk-weaker}
 use Rattle.searches.proofs.Refills.{refilled_is}

@@ -1,5 +1,5 @@
 -- The labelling by rooms is the labelling of a step.
-use Rattle.std.proofs.Common.{vec_len, sym, ap, ◌∙◌}
+use Rattle.std.proofs.Common.{sym, ap, ◌∙◌}
 use Rattle.rooms.specs.Rooms.{at}
 use Rattle.labelling.specs.Table.{label}
 use Rattle.calls.proofs.Loads.{passed_is_plan}

@@ -1,8 +1,8 @@
 -- The pile that is planned on is the plant as the sheet leaves it.
-use Rattle.std.proofs.Common.{Ok, ap, ◌∙◌, subst, ap₂}
+use Rattle.std.proofs.Common.{ap, ◌∙◌, ap₂}
 use Rattle.piles.specs.declared.closing.Closing.{Closing}
-use Rattle.sheets.specs.Sheet.{settings, sheet_judged, Applied}
-use Rattle.trayplan.proofs.Days.{set_on, day_listed}
+use Rattle.sheets.specs.Sheet.{settings}
+use Rattle.trayplan.proofs.Days.{day_listed}
 use Rattle.trayplan.proofs.answer_of_day.Goals as goal
 
 pub returns-in_ok-plan_lines-in-Ok : goal.returns-in_ok-plan_lines-in-Ok

@@ -1,6 +1,6 @@
 -- A lane keeps its label, or takes the one that it is given, if any.
 use Rattle.std.proofs.Common.{vec_items, vec_len, refl, arith}
-use Rattle.labels.specs.Labels.{from_state, marks}
+use Rattle.labels.specs.Labels.{from_state}
 use Rattle.labels.proofs.Marks.{mark_read, offered_known, offered_none, offered_some}
 use Rattle.labels.proofs.LabelTable.offer.Goals as goal
 

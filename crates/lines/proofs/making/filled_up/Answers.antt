@@ -1,4 +1,4 @@
-use Rattle.std.proofs.Common.{length, get_or, sym, ◌∙◌, inl, inr, arith}
+use Rattle.std.proofs.Common.{sym, ◌∙◌, inl, inr, arith}
 use Rattle.std.proofs.lemmas.List.{get_or_past}
 use Rattle.std.proofs.lemmas.Bool.{cases_lt}
 use Rattle.lines.proofs.making.filled_up.Goals as goal

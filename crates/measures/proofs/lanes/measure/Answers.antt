@@ -1,4 +1,4 @@
-use Rattle.std.proofs.Common.{length, arith}
+use Rattle.std.proofs.Common.{arith}
 use Rattle.rooms.specs.Rooms.{at}
 use Rattle.measures.proofs.Measured.{numbers_apart, measured_more}
 use Rattle.measures.proofs.lanes.measure.Goals as goal

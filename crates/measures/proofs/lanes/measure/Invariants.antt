@@ -1,4 +1,3 @@
-use Rattle.std.proofs.Common.{◌≡◌, length}
 use Rattle.rooms.specs.Rooms.{at}
 use Rattle.tables.specs.Tables.{meaning_in}
 use Rattle.measures.specs.Measures.{Measured}

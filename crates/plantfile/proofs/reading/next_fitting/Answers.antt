@@ -1,6 +1,6 @@
-use Rattle.std.proofs.Common.{◌≡◌, Ok, Err, sym, ap, ◌∙◌}
+use Rattle.std.proofs.Common.{Ok, Err, sym, ap, ◌∙◌}
 use Rattle.std.proofs.lemmas.Result.{err_from_is_err_and}
-use Rattle.plantformat.specs.Judge.{recorded, lanes_may_come}
+use Rattle.plantformat.specs.Judge.{recorded}
 use Rattle.answers.specs.Content.{content}
 use Rattle.records.specs.Parts.{record_part}
 use Rattle.plantfile.proofs.Steps.{may_come, recorded_ranged, next_unread, next_by}

@@ -1,4 +1,4 @@
-use Rattle.std.proofs.Common.{◌≡◌, ◌-◌, ◌<◌, length, Ok, Err, Result, sym, refl, ap, ◌∙◌, subst, arith, true-eqb, false-eqb}
+use Rattle.std.proofs.Common.{◌≡◌, ◌-◌, ◌<◌, length, Err, Result, sym, refl, ap, ◌∙◌, subst, arith, true-eqb, false-eqb}
 use Rattle.std.proofs.lemmas.Result.{err_from_is_err_and}
 use Rattle.plant.specs.declared.refusals.Refusal.{Refusal}
 use Rattle.sheets.specs.Sheet.{next_judged, setting_made, settings, made_of, sheet_read, Reads}

@@ -1,9 +1,8 @@
-use Rattle.std.proofs.Common.{◌≡◌, ℕ, ◌-◌, ◌^◌, ◌<◌, true, map, length, take, Some, vec_items, sym, ap, ◌∙◌, arith}
+use Rattle.std.proofs.Common.{◌≡◌, ◌^◌, ◌<◌, true, Some, sym, ap, ◌∙◌, arith}
 use mathlib.Core.Path.{subst⁻¹}
-use Rattle.plantformat.specs.Records.{limit_of}
 use Rattle.plantformat.specs.Rules.{limit_keeps}
 use Rattle.limits.specs.Told.{told}
-use Rattle.answers.specs.Answers.{limit_seen, limit_cap}
+use Rattle.answers.specs.Answers.{limit_cap}
 use Rattle.answers.proofs.SameCaps.{found_keeps, front_long, front_low, front_cap}
 use Rattle.answers.proofs.file_plant.FilePlant.cap_on.Goals as goal
 

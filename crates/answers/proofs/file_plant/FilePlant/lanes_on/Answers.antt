@@ -1,4 +1,4 @@
-use Rattle.std.proofs.Common.{◌≡◌, ◌+◌, ◌<◌, true, false, map, length, replicate, vec_items, vec_len, sym, refl, ap, ◌∙◌, arith}
+use Rattle.std.proofs.Common.{◌≡◌, ◌+◌, ◌<◌, true, map, length, replicate, vec_items, sym, refl, ◌∙◌, arith}
 use mathlib.Core.Path.{subst⁻¹}
 use Rattle.floor.specs.Floor.{on, end_of, station_of}
 use Rattle.plantformat.specs.Records.{floor_of}

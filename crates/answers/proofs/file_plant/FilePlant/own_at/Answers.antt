@@ -1,4 +1,4 @@
-use Rattle.std.proofs.Common.{◌∙◌, arith}
+use Rattle.std.proofs.Common.{arith}
 use Rattle.answers.proofs.Positions.{number_below, own_is, own_low}
 use Rattle.answers.proofs.file_plant.FilePlant.own_at.Goals as goal
 

@@ -1,4 +1,4 @@
-use Rattle.std.proofs.Common.{sym, ap, ◌∙◌}
+use Rattle.std.proofs.Common.{ap, ◌∙◌}
 use Rattle.linefloor.specs.Line.{line_meaning, grades_low, grades_fall}
 use Rattle.lines.proofs.Verdicts.{accepted_kept, same_grade}
 use Rattle.lines.proofs.line_plant.LinePlant.accepted.Goals as goal

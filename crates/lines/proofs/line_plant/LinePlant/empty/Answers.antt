@@ -1,4 +1,4 @@
-use Rattle.std.proofs.Common.{◌≡◌, ℕ, get_or, replicate, refl, ap, arith}
+use Rattle.std.proofs.Common.{refl, ap, arith}
 use Rattle.polymatroid.specs.Tables.{every}
 use Rattle.linefloor.specs.Line.{line_meaning, grades_low, grades_fall}
 use Rattle.lines.proofs.Verdicts.{no_grades}

@@ -1,4 +1,4 @@
-use Rattle.std.proofs.Common.{◌-◌, ◌*◌, ◌/◌, ◌%◌, ◌≤◌, sym, inl, inr, mul-le-mul, arith}
+use Rattle.std.proofs.Common.{◌-◌, ◌/◌, ◌%◌, ◌≤◌, sym, inl, inr, mul-le-mul, arith}
 use Rattle.std.proofs.lemmas.Bool.{cases_lt}
 use Rattle.lines.proofs.Sides.{some_lanes, lane_is}
 use Rattle.lines.proofs.line_plant.LinePlant.lane_on.Goals as goal

@@ -1,5 +1,5 @@
 -- The buffer then holds what was written into it.
-use Rattle.std.proofs.Common.{◌≡◌, length, drop, vec_items, sym, refl, ap, ◌∙◌, subst, ap₂, arith}
+use Rattle.std.proofs.Common.{◌≡◌, length, drop, vec_items, refl, subst, arith}
 use mathlib.Core.Path.{subst⁻¹}
 use Rattle.std.specs.Vec.{with_items}
 use Rattle.calls.specs.Events.{told_trays}

@@ -1,5 +1,5 @@
 -- No trays are a plan.
-use Rattle.std.proofs.Common.{◌≡◌, ℕ, true, false, length, replicate, vec_items, vec_len, ap, ◌∙◌, arith, rules}
+use Rattle.std.proofs.Common.{◌≡◌, ℕ, true, false, length, replicate, vec_items, arith, rules}
 use mathlib.Core.Path.{subst⁻¹}
 use Rattle.calls.specs.Events.{at}
 use Rattle.calls.specs.Does.{is_plan}

@@ -1,5 +1,5 @@
 -- Each turn makes one step of the run.
-use Rattle.std.proofs.Common.{◌≡◌, ℕ, ◌-◌, Some, None, Option, sym, refl, ap, ◌∙◌, subst, arith, rules}
+use Rattle.std.proofs.Common.{◌≡◌, ℕ, ◌-◌, Some, None, Option, sym, refl, ap, ◌∙◌, subst, arith}
 use Rattle.tables.specs.Tables.{meaning_in}
 use Rattle.tables.specs.declared.tables.Tables.{Tables}
 use Rattle.calls.specs.Does.{Held, step_does, run_does}

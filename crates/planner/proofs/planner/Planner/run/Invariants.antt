@@ -1,5 +1,5 @@
 -- What is left of the budget leads where the whole budget leads, with the moves so far added.
-use Rattle.std.proofs.Common.{◌≡◌, ℕ, ◌+◌, ◌-◌}
+use Rattle.std.proofs.Common.{◌≡◌, ℕ, ◌-◌}
 use Rattle.tables.specs.Tables.{meaning_in}
 use Rattle.calls.specs.Does.{Held, run_does}
 use Rattle.planner.specs.Planning.{held_in}

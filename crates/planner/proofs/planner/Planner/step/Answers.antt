@@ -1,5 +1,5 @@
 -- A move that is found can be made, and what it leaves is a plan.
-use Rattle.std.proofs.Common.{◌≡◌, ℕ, Bool, true, false, map, length, get_or, Some, vec_items, vec_len, refl, ap, ◌∙◌, subst, arith, rules}
+use Rattle.std.proofs.Common.{◌≡◌, ℕ, Bool, true, false, map, length, get_or, Some, vec_items, refl, ap, ◌∙◌, subst, arith, rules}
 use mathlib.Core.Path.{subst⁻¹}
 use Rattle.labelling.specs.Steps.{shifted}
 use Rattle.labels.specs.Labels.{signed_state}
@@ -8,7 +8,7 @@ use Rattle.searches.specs.Found.{Found, kept_move}
 use Rattle.tables.specs.Tables.{meaning_in}
 use Rattle.tables.proofs.Lawful.{tables_lawful}
 use Rattle.planner.specs.Planning.{Movable}
-use Rattle.planner.proofs.Stepping.{movable, moved_plan, moved_trays, moved_does}
+use Rattle.planner.proofs.Stepping.{movable, moved_plan, moved_does}
 use Rattle.planner.proofs.planner.Planner.step.Goals as goal
 
 pub move_trays-requires : goal.move_trays-requires

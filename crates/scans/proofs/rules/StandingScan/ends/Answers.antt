@@ -1,4 +1,4 @@
-use Rattle.std.proofs.Common.{◌≡◌, true, sym, ap, ◌∙◌}
+use Rattle.std.proofs.Common.{true, sym, ap, ◌∙◌}
 use Rattle.network.specs.States.{Pole}
 use Rattle.labelling.specs.Table.{signed}
 use Rattle.labels.specs.Labels.{is_plus}

@@ -1,5 +1,5 @@
-use Rattle.std.proofs.Common.{◌≡◌, true, false, sym, refl, ap, ◌∙◌}
-use Rattle.network.specs.States.{Pole, Plus, Minus}
+use Rattle.std.proofs.Common.{false, sym, refl, ◌∙◌}
+use Rattle.network.specs.States.{Pole}
 use Rattle.measures.specs.ByRooms.{ruled_by_rooms}
 use Rattle.scans.specs.Standing.{rule_of}
 use Rattle.scans.proofs.Gifts.{gives_plus, gives_none}

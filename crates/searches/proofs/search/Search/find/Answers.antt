@@ -1,17 +1,14 @@
 -- The parts of a search find the move of a step, or that there is none.
-use Rattle.std.proofs.Common.{◌≡◌, ◌<◌, map, length, vec_items, vec_len, sym, refl, ap, ◌∙◌, subst, arith, rules}
+use Rattle.std.proofs.Common.{◌<◌, map, length, vec_items, vec_len, sym, ap, ◌∙◌, arith}
 use mathlib.Core.Path.{subst⁻¹}
 use mathlib.Core.Option.{some}
 use Rattle.std.proofs.lemmas.List.{length-map}
 use Rattle.floor.specs.Floor.{leaving, entering}
 use Rattle.rooms.specs.Rooms.{at}
-use Rattle.labelling.specs.Table.{Ended, mark, path}
-use Rattle.labelling.specs.Steps.{outcome, row}
 use Rattle.calls.proofs.Loads.{passed_is_plan}
 use Rattle.tables.specs.Tables.{meaning_in}
 use Rattle.tables.proofs.Lawful.{tables_lawful}
 use Rattle.labels.specs.Labels.{marks_in, signed_state, came_out}
-use Rattle.labels.specs.Paths.{level_of}
 use Rattle.moves.specs.Amount.{RoomsAt, amount_by_rooms}
 use Rattle.moves.specs.Paths.{Among}
 use Rattle.searches.proofs.Finding.{none_found, path_read}

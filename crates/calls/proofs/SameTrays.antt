@@ -1,7 +1,7 @@
 -- Trays held as a list, one number for each lane of the floor, are the trays that the moves along its lanes lead to.
 use Rattle.std.proofs.Common.{◌≡◌, ℕ, suc, ◌+◌, ◌-◌, ◌<◌, ◌≤◌, true, cond, List, [], ◌∷◌, length, sym, ap, ◌∙◌, inl, inr, arith}
 use mathlib.Core.Path.{fun_ext}
-use Rattle.std.specs.List.{AllByRecursion as All}
+use Rattle.std.specs.List.{AllByRecursion}
 use Rattle.std.proofs.lemmas.Bool.{cases_lt, ne_eqb}
 use Rattle.std.proofs.lemmas.List.{get_or_past}
 use Rattle.std.proofs.lemmas.List.FromFn.{length-map-range_with_len, get_or-map-range_with_len}
@@ -49,12 +49,12 @@ module _ (M : Meaning) where
       let d : e ≡ g → ⊥ = λ q. omega arith in
       ap (λ b. cond b (f e - n) (f e)) (ne_eqb e g d) ∙ h e l
 
-  shifted_ends : (n : ℕ) (p : List State) (f : ℕ → ℕ) → All (OnFloor M) p → Ends M.floor.lanes f → Ends M.floor.lanes (shifted n p f)
+  shifted_ends : (n : ℕ) (p : List State) (f : ℕ → ℕ) → AllByRecursion (OnFloor M) p → Ends M.floor.lanes f → Ends M.floor.lanes (shifted n p f)
   unfolding shifted
   shifted_ends n [] f o h = h
   shifted_ends n (x ∷ p) f o h = shifted_ends n p (applied n x f) o.1 (applied_ends n x f o.0 h)
 
-  path_on_floor : (f : ℕ → ℕ) (p : List State) → Augments M f p → All (OnFloor M) p
+  path_on_floor : (f : ℕ → ℕ) (p : List State) → Augments M f p → AllByRecursion (OnFloor M) p
   unfolding along
   path_on_floor f p a = All-from_get_or (OnFloor M) p (Pole true) (λ i l. a.ok (suc i) (omega arith))
 

@@ -1,7 +1,7 @@
 -- Tests that a worked floor passes, and that they show what they should.
 use Rattle.std.proofs.Common.{◌≡◌, ℕ, ◌^◌, ◌<◌, Bool, true, false, cond, not, ◌&&◌, ◌||◌, eqb, ltb, leb, List, [], ◌∷◌, refl, ap, ap₂, inl, inr}
 use mathlib.Core.Option.{Option, none, some}
-use Rattle.std.specs.List.{AllByRecursion as All}
+use Rattle.std.specs.List.{AllByRecursion}
 use Rattle.std.proofs.lemmas.Bool.{both_ways, and_parts, or_cases, not-true, eqb-true, eqb-false, ltb-true, leb-true}
 use Rattle.polymatroid.specs.Side.{load}
 use Rattle.polymatroid.specs.Laws.{FourLaws}
@@ -242,7 +242,7 @@ unfoldable pub all_work? : List Worked → Bool
 all_work? [] = true
 all_work? (w ∷ ws) = works? w && all_work? ws
 
-pub all_work : (ws : List Worked) → all_work? ws ≡ true → All Works ws
+pub all_work : (ws : List Worked) → all_work? ws ≡ true → AllByRecursion Works ws
 unfolding all_work?
 all_work [] h = tt
 all_work (w ∷ ws) h = let a = and_parts (works? w) (all_work? ws) h in (works w a.0, all_work ws a.1)

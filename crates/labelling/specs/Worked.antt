@@ -1,7 +1,7 @@
 -- Floors worked through: on each the definitions, evaluated, give the moves that are written here.
 use Rattle.std.specs.Prelude.{◌≡◌, ℕ, ◌<◌, Bool, true, false, cond, ◌&&◌, List, [], ◌∷◌, length, ◌==◌, nat_eq, slice_index}
 use Rattle.std.proofs.Math.Option.{none}
-use Rattle.std.specs.List.{AllByRecursion as All}
+use Rattle.std.specs.List.{AllByRecursion}
 use Rattle.polymatroid.specs.Kinds.{plain, graded, grouped, ceiling, closing}
 use Rattle.floor.specs.Numbers.{top_cap}
 use Rattle.floor.specs.Floor.{Floor}
@@ -207,4 +207,4 @@ pub record Works (w : Worked) : Type 0 where
   pub cut : capacity w.meaning (near w.meaning (left_by w) (labels w.meaning (left_by w))) (unlabelled (labels w.meaning (left_by w))) ≡ w.carried
 
 abbrev pub WorkedFloors : Type 0
-WorkedFloors = All Works worked_floors
+WorkedFloors = AllByRecursion Works worked_floors

@@ -1,7 +1,7 @@
 -- A path at the lanes that enter a station k: pairs by a full arrival, whose exchanges are sound, and the open pair.
 use Rattle.std.proofs.Common.{◌≡◌, ℕ, suc, ◌<◌, ◌≤◌, min, Bool, true, false, cond, not, ◌&&◌, eqb, ltb, List, ◌∷◌, map, sym, refl, ap, ◌∙◌, inl, inr, arith}
 use mathlib.Core.Path.{subst⁻¹}
-use Rattle.std.specs.List.{AllByRecursion as All}
+use Rattle.std.specs.List.{AllByRecursion}
 use Rattle.std.proofs.lemmas.Bool.{cases_eq, both_ways, eqb-true, eq-eqb, and_parts}
 use Rattle.polymatroid.specs.Finite.{first}
 use Rattle.polymatroid.specs.Side.{In, Full, room_but, Within, Caps}
@@ -56,7 +56,7 @@ module _ (M : Meaning) (f : ℕ → ℕ) (P : ℕ → State) (k : ℕ) where
 
 pub turn_cond : (K : ℕ) (C w : ℕ → ℕ) (u v : ℕ) (sw : ℕ → Exchange) (b : Bool) (a : ℕ) (H : List ℕ)
     → (b ≡ true → Clear K C w (sw a).up u v)
-    → (b ≡ true → All (λ s. Clear K C w (sw a).up s.up s.down) (map sw H))
+    → (b ≡ true → AllByRecursion (λ s. Clear K C w (sw a).up s.up s.down) (map sw H))
     → InTurn K C w u v (map sw H) → InTurn K C w u v (map sw (cond b (a ∷ H) H))
 turn_cond K C w u v sw true a H x y z = (x refl, y refl, z)
 turn_cond K C w u v sw false a H x y z = z

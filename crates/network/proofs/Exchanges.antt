@@ -1,7 +1,7 @@
 -- A path at the lanes that enter a station k: its exchanges come in turn, so that the move is one of the side.
 use Rattle.std.proofs.Common.{◌≡◌, ℕ, zero, suc, ◌+◌, ◌<◌, ◌≤◌, min, true, false, eqb, sym, refl, ap, ◌∙◌, subst, inl, inr, arith}
 use mathlib.Core.Path.{subst⁻¹}
-use Rattle.std.specs.List.{AllByRecursion as All}
+use Rattle.std.specs.List.{AllByRecursion}
 use Rattle.std.proofs.lemmas.Bool.{cases_lt, cases_Bool, cases_eq, both_ways, eq-eqb, and_parts, lt-ltb, le-ltb}
 use Rattle.std.proofs.ByRecursion.{All-map}
 use Rattle.polymatroid.specs.Sets.{has}
@@ -146,7 +146,7 @@ module _ (M : Meaning) (laws : Lawful M) (f : ℕ → ℕ) (fits : Fits M f) (P 
       (in_turn (suc a) c (omega arith))
 
   all_sound : (n : ℕ) → ((q : ℕ) → q < N → n ≤ amount M f (P q) (P (suc q)))
-      → All (Sound (count M.floor true k) (M.cap true k) (trays M f true k) n) (exchanges_at M f P k 0 N)
+      → AllByRecursion (Sound (count M.floor true k) (M.cap true k) (trays M f true k) n) (exchanges_at M f P k 0 N)
   unfolding exchanges_at
   all_sound n least =
       All-map (Sound (count M.floor true k) (M.cap true k) (trays M f true k) n) (exchange_at M f P k) (hits (is_full_pair M f P k) 0 N)

@@ -1,6 +1,6 @@
 -- The numbers of a stretch that pass a test, in order; and sums over a stretch.
 use Rattle.std.proofs.Common.{◌≡◌, ℕ, zero, suc, ◌+◌, ◌<◌, ◌≤◌, Bool, true, false, cond, ltb, List, [], ◌∷◌, length, get_or, refl, ap, ◌∙◌, inl, inr, arith}
-use Rattle.std.specs.List.{AllByRecursion as All}
+use Rattle.std.specs.List.{AllByRecursion}
 use Rattle.std.proofs.lemmas.Bool.Decides.{nat_tests}
 use Rattle.std.proofs.lemmas.Bool.{cases_eq, both_ways}
 use Rattle.std.proofs.ByRecursion.{All-get_or}
@@ -13,12 +13,12 @@ unfoldable pub hits : (ℕ → Bool) → ℕ → ℕ → List ℕ
 hits t a zero = []
 hits t a (suc c) = cond (t a) (a ∷ hits t (suc a) c) (hits t (suc a) c)
 
-all_cond : (Q : ℕ → Type 0) (b : Bool) (a : ℕ) (H : List ℕ) → (b ≡ true → Q a) → All Q H → All Q (cond b (a ∷ H) H)
+all_cond : (Q : ℕ → Type 0) (b : Bool) (a : ℕ) (H : List ℕ) → (b ≡ true → Q a) → AllByRecursion Q H → AllByRecursion Q (cond b (a ∷ H) H)
 all_cond Q true a H h r = (h refl, r)
 all_cond Q false a H h r = r
 
 -- a hit lies in the stretch and passes
-pub all_hits : (t : ℕ → Bool) (Q : ℕ → Type 0) (a c : ℕ) → ((q : ℕ) → a ≤ q → q < a + c → t q ≡ true → Q q) → All Q (hits t a c)
+pub all_hits : (t : ℕ → Bool) (Q : ℕ → Type 0) (a c : ℕ) → ((q : ℕ) → a ≤ q → q < a + c → t q ≡ true → Q q) → AllByRecursion Q (hits t a c)
 unfolding hits
 all_hits t Q a zero h = tt
 all_hits t Q a (suc c) h =
@@ -35,13 +35,13 @@ hit_at t a c i d l =
 abbrev pub Rises : ℕ → List ℕ → Type 0
 Rises d H = (i j : ℕ) → i ≤ j → j < length H → get_or H i d ≤ get_or H j d
 
-rises_cons : (d a : ℕ) (H : List ℕ) → All (λ q. a ≤ q) H → Rises d H → Rises d (a ∷ H)
+rises_cons : (d a : ℕ) (H : List ℕ) → AllByRecursion (λ q. a ≤ q) H → Rises d H → Rises d (a ∷ H)
 rises_cons d a H lo r zero zero h l = omega arith
 rises_cons d a H lo r zero (suc j) h l = All-get_or (λ q. a ≤ q) H j d (omega arith) lo
 rises_cons d a H lo r (suc i) zero h l = absurd (omega arith)
 rises_cons d a H lo r (suc i) (suc j) h l = r i j (omega arith) (omega arith)
 
-rises_cond : (d a : ℕ) (b : Bool) (H : List ℕ) → All (λ q. a ≤ q) H → Rises d H → Rises d (cond b (a ∷ H) H)
+rises_cond : (d a : ℕ) (b : Bool) (H : List ℕ) → AllByRecursion (λ q. a ≤ q) H → Rises d H → Rises d (cond b (a ∷ H) H)
 rises_cond d a true H lo r = rises_cons d a H lo r
 rises_cond d a false H lo r = r
 

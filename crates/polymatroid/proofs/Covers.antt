@@ -1,7 +1,7 @@
 -- A set joined with the tight sets of the first exchanges of a list: what is left below its cap, and what it gains.
 use Rattle.std.proofs.Common.{◌≡◌, ℕ, zero, suc, ◌+◌, ◌^◌, ◌<◌, ◌≤◌, cond, ◌⊎◌, List, [], ◌∷◌, length, drop, refl, inl, inr, arith}
 use lib.Bits.{bit_and, bit_or, or_lt}
-use Rattle.std.specs.List.{AllByRecursion as All}
+use Rattle.std.specs.List.{AllByRecursion}
 use Rattle.std.proofs.lemmas.Bool.{cases_Bool}
 use Rattle.std.proofs.ByRecursion.{All-get_or}
 use Rattle.polymatroid.specs.Sets.{has}
@@ -26,7 +26,7 @@ module _ (k : ℕ) (cap : ℕ → ℕ) (caps : Caps k cap) (w : ℕ → ℕ) (fi
 
   module _ (ends : Ends k cap w n u v) where
     -- what a set carries after the move
-    pub load_after : (ss : List Exchange) (X : ℕ) → X < 2 ^ k → All (Sound k cap w n) ss → InTurn k cap w u v ss
+    pub load_after : (ss : List Exchange) (X : ℕ) → X < 2 ^ k → AllByRecursion (Sound k cap w n) ss → InTurn k cap w u v ss
         → load (after n u v ss w) k X + loss ss X ≡ load w k X + gain ss X
     unfolding exchanged gain loss ups downs SameOn
     load_after [] X l o i = let m = load_moved w u v n k X l ends.apart ends.carries in omega arith
@@ -45,7 +45,7 @@ module _ (k : ℕ) (cap : ℕ → ℕ) (caps : Caps k cap) (w : ℕ → ℕ) (fi
   pub tight_of : (s : Exchange) → Sound k cap w n s → Tight k cap w (tight_set k cap w s.up) × In (tight_set k cap w s.up) s.up
   tight_of s o = full_tight k cap caps w fits s.up o.up_on o.full
 
-  pub cover_set : (q : ℕ) (ss : List Exchange) (Z : ℕ) → Z < 2 ^ k → All (Sound k cap w n) ss → cover q ss Z < 2 ^ k
+  pub cover_set : (q : ℕ) (ss : List Exchange) (Z : ℕ) → Z < 2 ^ k → AllByRecursion (Sound k cap w n) ss → cover q ss Z < 2 ^ k
   unfolding cover
   cover_set zero ss Z l o = l
   cover_set (suc q) [] Z l o = l
@@ -53,7 +53,7 @@ module _ (k : ℕ) (cap : ℕ → ℕ) (caps : Caps k cap) (w : ℕ → ℕ) (fi
       or_lt k (cover q ss Z) (tight_set k cap w s.up) (cover_set q ss Z l o.1) (tight_of s o.0).0.set
 
   -- a cover has no more left below its cap
-  pub cover_left : (q : ℕ) (ss : List Exchange) (Z : ℕ) → Z < 2 ^ k → All (Sound k cap w n) ss
+  pub cover_left : (q : ℕ) (ss : List Exchange) (Z : ℕ) → Z < 2 ^ k → AllByRecursion (Sound k cap w n) ss
       → cap (cover q ss Z) + load w k Z ≤ cap Z + load w k (cover q ss Z)
   unfolding cover
   cover_left zero ss Z l o = omega arith
@@ -66,7 +66,7 @@ module _ (k : ℕ) (cap : ℕ → ℕ) (caps : Caps k cap) (w : ℕ → ℕ) (fi
       )
 
   -- a set joined with one that has none of the positions gains and loses there what it did
-  ups_joined : (Y X : ℕ) (ss : List Exchange) → All (λ t. Out Y t.up × Out Y t.down) ss → ups n ss (bit_or X Y) ≡ ups n ss X
+  ups_joined : (Y X : ℕ) (ss : List Exchange) → AllByRecursion (λ t. Out Y t.up × Out Y t.down) ss → ups n ss (bit_or X Y) ≡ ups n ss X
   unfolding ups
   ups_joined Y X [] a = refl
   ups_joined Y X (s ∷ ss) a =
@@ -75,7 +75,7 @@ module _ (k : ℕ) (cap : ℕ → ℕ) (caps : Caps k cap) (w : ℕ → ℕ) (fi
       let o = a.0.0 in
       grind arith
 
-  downs_joined : (Y X : ℕ) (ss : List Exchange) → All (λ t. Out Y t.up × Out Y t.down) ss → downs n ss (bit_or X Y) ≡ downs n ss X
+  downs_joined : (Y X : ℕ) (ss : List Exchange) → AllByRecursion (λ t. Out Y t.up × Out Y t.down) ss → downs n ss (bit_or X Y) ≡ downs n ss X
   unfolding downs
   downs_joined Y X [] a = refl
   downs_joined Y X (s ∷ ss) a =
@@ -85,7 +85,7 @@ module _ (k : ℕ) (cap : ℕ → ℕ) (caps : Caps k cap) (w : ℕ → ℕ) (fi
       grind arith
 
   -- over all exchanges a cover gains as much as the set does over those behind the first q
-  pub cover_gain : (q : ℕ) (ss : List Exchange) (Z : ℕ) → All (Sound k cap w n) ss → InTurn k cap w u v ss
+  pub cover_gain : (q : ℕ) (ss : List Exchange) (Z : ℕ) → AllByRecursion (Sound k cap w n) ss → InTurn k cap w u v ss
       → gain ss (cover q ss Z) + loss (drop q ss) Z ≡ loss ss (cover q ss Z) + gain (drop q ss) Z
   unfolding cover gain loss ups downs
   cover_gain zero ss Z o i = omega arith
@@ -148,13 +148,13 @@ module _ (k : ℕ) (cap : ℕ → ℕ) (caps : Caps k cap) (w : ℕ → ℕ) (fi
   turn_later (s ∷ ss) (suc i) (suc j) h l t = turn_later ss i j (omega arith) (omega arith) t.2
 
   pub turn_rest : (ss : List Exchange) (i : ℕ) → i < length ss → InTurn k cap w u v ss
-      → All (λ t. Clear k cap w (nth k ss i).up t.up t.down) (drop (suc i) ss)
+      → AllByRecursion (λ t. Clear k cap w (nth k ss i).up t.up t.down) (drop (suc i) ss)
   turn_rest [] i l t = absurd (omega arith)
   turn_rest (s ∷ ss) zero l t = t.1
   turn_rest (s ∷ ss) (suc i) l t = turn_rest ss i (omega arith) t.2
 
   -- a part of a set that has none of the positions
-  pub ups_none : (X Y : ℕ) (ss : List Exchange) → All (λ t. Out Y t.up × Out Y t.down) ss → ups n ss (bit_and X Y) ≡ 0
+  pub ups_none : (X Y : ℕ) (ss : List Exchange) → AllByRecursion (λ t. Out Y t.up × Out Y t.down) ss → ups n ss (bit_and X Y) ≡ 0
   unfolding ups
   ups_none X Y [] a = refl
   ups_none X Y (s ∷ ss) a =
@@ -163,7 +163,7 @@ module _ (k : ℕ) (cap : ℕ → ℕ) (caps : Caps k cap) (w : ℕ → ℕ) (fi
       let o = a.0.0 in
       grind arith
 
-  pub downs_none : (X Y : ℕ) (ss : List Exchange) → All (λ t. Out Y t.up × Out Y t.down) ss → downs n ss (bit_and X Y) ≡ 0
+  pub downs_none : (X Y : ℕ) (ss : List Exchange) → AllByRecursion (λ t. Out Y t.up × Out Y t.down) ss → downs n ss (bit_and X Y) ≡ 0
   unfolding downs
   downs_none X Y [] a = refl
   downs_none X Y (s ∷ ss) a =

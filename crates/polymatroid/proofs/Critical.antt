@@ -1,7 +1,7 @@
 -- A critical pair is no pair afterwards, and a new pair splices.
 use Rattle.std.proofs.Common.{◌≡◌, ℕ, suc, ◌+◌, ◌^◌, ◌<◌, ◌≤◌, cond, ◌⊎◌, List, [], ◌∷◌, length, drop, refl, inl, inr, arith, drop-cons}
 use lib.Bits.{bit_and, and_lt}
-use Rattle.std.specs.List.{AllByRecursion as All}
+use Rattle.std.specs.List.{AllByRecursion}
 use Rattle.std.proofs.lemmas.Bool.{cases_Bool, cases_lt, cases_eq, both_ways}
 use Rattle.std.proofs.lemmas.List.{drop_all}
 use Rattle.std.proofs.ByRecursion.{All-get_or}
@@ -16,7 +16,7 @@ use Rattle.polymatroid.proofs.Exchange.{all_keep}
 use Rattle.polymatroid.proofs.Covers.{out_from, gain, loss, load_after, cover, tight_of, cover_set, cover_left, cover_gain, cover_keeps, cover_in, turn_ends, turn_later, turn_rest, ups_none, downs_none}
 
 module _ (k : ℕ) (cap : ℕ → ℕ) (caps : Caps k cap) (w : ℕ → ℕ) (fits : Within k cap w) (n u v : ℕ) where
-  module _ (ends : Ends k cap w n u v) (ss : List Exchange) (sound : All (Sound k cap w n) ss) (turn : InTurn k cap w u v ss) where
+  module _ (ends : Ends k cap w n u v) (ss : List Exchange) (sound : AllByRecursion (Sound k cap w n) ss) (turn : InTurn k cap w u v ss) where
     -- a set that gains, behind the first q, what is left below its cap: its cover is tight afterwards
     cover_tight : (q Z : ℕ) → Z < 2 ^ k → cap Z + loss k cap caps w fits n u v (drop q ss) Z ≤ load w k Z + gain k cap caps w fits n u v (drop q ss) Z
         → Tight k cap (after n u v ss w) (cover k cap caps w fits n u v q ss Z)
@@ -88,8 +88,8 @@ module _ (k : ℕ) (cap : ℕ → ℕ) (caps : Caps k cap) (w : ℕ → ℕ) (fi
 
     -- the last exchange that takes trays from S
     last_down : (S : ℕ) (ts : List Exchange)
-        → All (λ t. Out S t.down) ts
-        ⊎ ((j : ℕ) × (j < length ts) × In S (nth k ts j).down × All (λ t. Out S t.down) (drop (suc j) ts))
+        → AllByRecursion (λ t. Out S t.down) ts
+        ⊎ ((j : ℕ) × (j < length ts) × In S (nth k ts j).down × AllByRecursion (λ t. Out S t.down) (drop (suc j) ts))
     last_down S [] = inl tt
     last_down S (t ∷ ts) =
         elim (last_down S ts) [
@@ -97,7 +97,7 @@ module _ (k : ℕ) (cap : ℕ → ℕ) (caps : Caps k cap) (w : ℕ → ℕ) (fi
           | inr r ↦ inr (suc r.0, omega (arith, r.1), r.2, r.3)
         ]
 
-    no_downs : (S : ℕ) (ts : List Exchange) → All (λ t. Out S t.down) ts → downs n ts S ≡ 0
+    no_downs : (S : ℕ) (ts : List Exchange) → AllByRecursion (λ t. Out S t.down) ts → downs n ts S ≡ 0
     unfolding downs
     no_downs S [] a = refl
     no_downs S (t ∷ ts) a = let ih = no_downs S ts a.1 in let o = a.0 in grind arith
@@ -136,7 +136,7 @@ module _ (k : ℕ) (cap : ℕ → ℕ) (caps : Caps k cap) (w : ℕ → ℕ) (fi
         by_tight : (Y : ℕ) → Tight k cap (after n u v ss w) Y → In Y e → Out Y g → ⊥
         by_tight Y t' a b = omega (arith, no_room e g Y t' a b)
 
-        lossless : (q : ℕ) → Out S v → All (λ t. Out S t.down) (drop q ss) → cap S + loss k cap caps w fits n u v (drop q ss) S ≤ load w k S + gain k cap caps w fits n u v (drop q ss) S
+        lossless : (q : ℕ) → Out S v → AllByRecursion (λ t. Out S t.down) (drop q ss) → cap S + loss k cap caps w fits n u v (drop q ss) S ≤ load w k S + gain k cap caps w fits n u v (drop q ss) S
         lossless q z a = let d = no_downs S (drop q ss) a in let c = s.0.reached in grind arith
 
         found : (j : ℕ) → j < length ss → In S (nth k ss j).down → Tight k cap (after n u v ss w) (cover k cap caps w fits n u v (suc j) ss S)

@@ -1,7 +1,7 @@
 -- Exchanges on one side keep the trays within the caps.
 use Rattle.std.proofs.Common.{◌≡◌, ℕ, ◌+◌, ◌^◌, ◌<◌, ◌≤◌, cond, List, [], ◌∷◌, refl, inl, inr, arith}
 use lib.Bits.{bit_and, and_lt}
-use Rattle.std.specs.List.{AllByRecursion as All}
+use Rattle.std.specs.List.{AllByRecursion}
 use Rattle.std.proofs.lemmas.Bool.Decides.{nat_tests}
 use Rattle.std.proofs.lemmas.Bool.{cases_lt}
 use Rattle.polymatroid.specs.Sets.{has}
@@ -50,7 +50,7 @@ module _ (k : ℕ) (cap w : ℕ → ℕ) (n u v : ℕ) where
   S p = tight_set k cap w p
 
   -- exchanges that a tight set is clear of leave it alone
-  pub all_still : (p : ℕ) (ss : List Exchange) → Clear k cap w p u v → All (λ t. Clear k cap w p t.up t.down) ss
+  pub all_still : (p : ℕ) (ss : List Exchange) → Clear k cap w p u v → AllByRecursion (λ t. Clear k cap w p t.up t.down) ss
       → SameOn k (after n u v ss w) w (tight_set k cap w p)
   unfolding exchanged
   all_still p [] c a = still k w w u v n (tight_set k cap w p) c.0 c.1 (same_self k w (tight_set k cap w p))
@@ -97,7 +97,7 @@ module _ (k : ℕ) (cap w : ℕ → ℕ) (n u v : ℕ) where
         ] in
         grind arith
 
-    pub all_keep : (ss : List Exchange) → Ends k cap w n u v → All (Sound k cap w n) ss → InTurn k cap w u v ss
+    pub all_keep : (ss : List Exchange) → Ends k cap w n u v → AllByRecursion (Sound k cap w n) ss → InTurn k cap w u v ss
         → Within k cap (after n u v ss w)
     unfolding exchanged
     all_keep [] d o i = ends_keep d

@@ -1,7 +1,7 @@
 -- What a move does at one side: it puts n trays at position u, takes n from position v, and makes exchanges.
 -- A position that is not on the side is k, which no set of the side has.
 use Rattle.std.specs.Prelude.{◌≡◌, ℕ, ◌+◌, ◌<◌, ◌≤◌, cond, List, [], ◌∷◌, ◌≢◌}
-use Rattle.std.specs.List.{AllByRecursion as All}
+use Rattle.std.specs.List.{AllByRecursion}
 use Rattle.polymatroid.specs.Sets.{has}
 use Rattle.polymatroid.specs.Side.{In, Out, Caps, Within, Full, tight_set, moved, room_but}
 
@@ -55,13 +55,13 @@ Clear k cap w p u v = Out (tight_set k cap w p) u × Out (tight_set k cap w p) v
 abbrev pub InTurn : ℕ → (ℕ → ℕ) → (ℕ → ℕ) → ℕ → ℕ → List Exchange → Type 0
 InTurn k cap w u v [] = Unit {0}
 InTurn k cap w u v (s ∷ ss) =
-    Clear k cap w s.up u v × All (λ t. Clear k cap w s.up t.up t.down) ss × InTurn k cap w u v ss
+    Clear k cap w s.up u v × AllByRecursion (λ t. Clear k cap w s.up t.up t.down) ss × InTurn k cap w u v ss
 
 pub record SideMove (k : ℕ) (cap w : ℕ → ℕ) (n u v : ℕ) (ss : List Exchange) : Type 0 where
   pub caps : Caps k cap
   pub fits : Within k cap w
   pub ends : Ends k cap w n u v
-  pub sound : All (Sound k cap w n) ss
+  pub sound : AllByRecursion (Sound k cap w n) ss
   pub turn : InTurn k cap w u v ss
 
 -- a move leaves the trays within the caps

@@ -1,6 +1,6 @@
 -- Accepted sheets are the encodings of settings that may be set.
 use Rattle.std.proofs.Common.{◌≡◌, ℕ, zero, suc, ◌+◌, ◌-◌, ◌≤◌, Bool, true, false, cond, ◌||◌, eqb, ltb, leb, List, [], ◌∷◌, ◌++◌, length, take, drop, Ok, Err, Result, sym, refl, ap, ◌∙◌, subst, arith}
-use Rattle.std.specs.List.{AllByRecursion as All}
+use Rattle.std.specs.List.{AllByRecursion}
 use Rattle.std.proofs.lemmas.Bool.Decides.{nat_tests}
 use Rattle.std.proofs.lemmas.List.{length-take, length-drop, length-append, get_or-take, get_or_append_left, take-append-drop, drop-take, drop-append-le, take_at, drop_at, nil_from_length}
 use Rattle.std.proofs.lemmas.Bool.{eqb-true, lt-ltb, le-leb, ltb-false, le-ltb, or_parts, or_from}
@@ -133,7 +133,7 @@ front_long t front r = (bytes_said front t r).0
 
 module _ (F : Floor) (total : ℕ) where
   abbrev Encoded : List ℕ → List Setting → Type 0
-  Encoded bs ts = Row SettingBytes ts bs × All (Allowed F) ts
+  Encoded bs ts = Row SettingBytes ts bs × AllByRecursion (Allowed F) ts
 
   none_encoded : (bs : List ℕ) (ts : List Setting) → length bs ≡ 0 → ◌≡◌ {A = Result (List Setting) Refusal} (Ok []) (Ok ts) → Encoded bs ts
   none_encoded bs ts n e = subst (Encoded bs) (ok_same {E = Refusal} e) (nil_from_length bs n, tt)
@@ -161,7 +161,7 @@ module _ (F : Floor) (total : ℕ) where
           let more = ih rest b.0 (omega arith) b.1 in
           subst (Encoded bs) b.2 ((c.0, rest, c.1, c.2, more.0), (c.3, more.1))
 
-  pub encoded_reads : (fuel : ℕ) (bs : List ℕ) (ts : List Setting) → length bs ≤ fuel → Row SettingBytes ts bs → All (Allowed F) ts
+  pub encoded_reads : (fuel : ℕ) (bs : List ℕ) (ts : List Setting) → length bs ≤ fuel → Row SettingBytes ts bs → AllByRecursion (Allowed F) ts
       → sheet_read fuel total F bs ≡ Ok ts
   encoded_reads fuel bs [] l none allowed = read_none F total fuel bs (ap length none)
   encoded_reads zero bs (t ∷ ts) l (front, rest, cut, bytes, row) allowed =

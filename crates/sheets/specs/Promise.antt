@@ -1,6 +1,6 @@
 -- What is promised of sheets, in the words of the subject: a relation between settings and bytes, with no reader in it.
 use Rattle.std.specs.Prelude.{◌≡◌, ℕ, ◌<◌, ◌≤◌, List, length, Ok}
-use Rattle.std.specs.List.{AllByRecursion as All}
+use Rattle.std.specs.List.{AllByRecursion}
 use Rattle.floor.specs.Numbers.{top_cap}
 use Rattle.floor.specs.Floor.{Floor, sides, width}
 use Rattle.plantformat.specs.Bytes.{word, long}
@@ -39,7 +39,7 @@ Allowed F (Lower s c) = (s < sides F) × (c ≤ top_cap)
 pub record DaySheet (F : Floor) (bs : List ℕ) (ts : List Setting) : Type 0 where
   pub not_too_long : length bs ≤ most_sheet_bytes
   pub encodes : Row SettingBytes ts bs
-  pub allowed : All (Allowed F) ts
+  pub allowed : AllByRecursion (Allowed F) ts
 
 -- an accepted sheet is the encoding of the settings that are read from it
 abbrev pub AcceptedSheetsEncode : Type 0

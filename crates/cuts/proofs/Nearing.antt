@@ -34,7 +34,7 @@ module _ (M : Meaning) (rooms : List ℕ) (t : List Mark) (i : ℕ) where
 
   -- where these are the rooms of trays f, the same stations are near
   module _ (f : ℕ → ℕ) (are : EnteringRooms M f rooms) where
-    nears_are : (e : ℕ) → e < M.floor.lanes → nears_by_rooms M rooms t i e ≡ nears M f t i e
+    pub nears_are : (e : ℕ) → e < M.floor.lanes → nears_by_rooms M rooms t i e ≡ nears M f t i e
     nears_are e l =
         ap (λ b. (minus_labelled t e && eqb (M.floor.end leaving e) i) || (plus_labelled t e && (not b && eqb (M.floor.end entering e) i)))
         (ap (λ n. eqb n 0) (are e l) ∙ full_is M f entering e)

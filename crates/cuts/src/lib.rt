@@ -2,6 +2,7 @@
 #![tactic(auto)]
 
 ghost use Rattle.std.specs.Prelude.{◌≡◌, ℕ, ◌<◌, length, if◌then◌else◌, vec_len, slice_index};
+ghost use Rattle.labelling.specs.Near.{nears, near};
 ghost use Rattle.tables.specs.Tables.{meaning_in};
 ghost use Rattle.labels.specs.Labels.{marks_in, lanes_in};
 ghost use Rattle.cuts.specs.Cut.{EnteringRooms, nears_by_rooms, near_by_rooms, near_byte, byte_near, cut_byte, CutBytes};
@@ -20,7 +21,8 @@ fn makes_near(
     requires lane { lane < vec_len tables.now.lanes }
     requires labels { lanes_in labels.now ≡ vec_len tables.now.lanes }
     requires rooms { length in_rooms.now ≡ vec_len tables.now.lanes }
-    ensures { result ≡ nears_by_rooms (meaning_in tables.now) in_rooms.now (marks_in labels.now) station lane }
+    ensures by_rooms { result ≡ nears_by_rooms (meaning_in tables.now) in_rooms.now (marks_in labels.now) station lane }
+    ensures with_trays { (f : ℕ → ℕ) → EnteringRooms (meaning_in tables.now) f in_rooms.now → result ≡ nears (meaning_in tables.now) f (marks_in labels.now) station lane }
 {
     let row = tables.lanes[lane];
     let Some(sign) = labels.sign(lane) else {
@@ -36,7 +38,8 @@ fn makes_near(
 fn is_near(tables: &Tables, labels: &LabelTable, in_rooms: &[u32], station: usize) -> bool
     requires labels { lanes_in labels.now ≡ vec_len tables.now.lanes }
     requires rooms { length in_rooms.now ≡ vec_len tables.now.lanes }
-    ensures { result ≡ near_by_rooms (meaning_in tables.now) in_rooms.now (marks_in labels.now) station }
+    ensures by_rooms { result ≡ near_by_rooms (meaning_in tables.now) in_rooms.now (marks_in labels.now) station }
+    ensures with_trays { (f : ℕ → ℕ) → EnteringRooms (meaning_in tables.now) f in_rooms.now → result ≡ near (meaning_in tables.now) f (marks_in labels.now) station }
 {
     if tables.stock == station {
         return true;

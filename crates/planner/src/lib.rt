@@ -4,8 +4,10 @@
 #![tactic(auto)]
 
 ghost use Rattle.std.specs.Prelude.{◌≡◌, ℕ, map, IfOk, vec_len, slice_index};
+ghost use Rattle.floor.specs.Meaning.{Lawful};
 ghost use Rattle.labelling.specs.Steps.{shifted};
 ghost use Rattle.labels.specs.Labels.{signed_state};
+ghost use Rattle.tables.specs.Tables.{meaning_in};
 ghost use Rattle.calls.specs.Events.{at, loaded, stepped, ran, told_total, told_moves, told_trays, told_cut};
 ghost use Rattle.calls.specs.Does.{counted};
 ghost use Rattle.planner.specs.Planning.{Opened, Movable, Did};
@@ -46,8 +48,9 @@ fn one_more(moves: u64) -> u64
 }
 
 impl Planner {
-    // A plan with no trays.
+    // A plan with no trays, on the tables of a lawful plant.
     pub fn open(heap: Global, tables: Tables) -> Result<Planner, AllocError>
+        requires { Lawful (meaning_in tables) }
         ensures { IfOk result (λ p. Opened tables p) }
     {
         let lanes = tables.lanes.len();

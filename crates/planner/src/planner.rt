@@ -1,5 +1,6 @@
 // What a plan holds besides its plant.
 ghost use Rattle.std.specs.Prelude.{◌≡◌, true, length, vec_len};
+ghost use Rattle.floor.specs.Meaning.{Lawful};
 ghost use Rattle.tables.specs.Tables.{meaning_in};
 ghost use Rattle.calls.specs.Events.{at};
 ghost use Rattle.calls.specs.Does.{is_plan, tray_list, lane_byte, station_byte};
@@ -18,6 +19,8 @@ pub struct Planner {
     pub(crate) cut_stations: Vec<u8>,
     pub(crate) moves: u64,
     pub(crate) finished: bool,
+    // what the tables mean is lawful
+    ghost lawful: { Lawful (meaning_in tables) },
     // every lane has its trays
     ghost all_trays: { vec_len trays ≡ vec_len tables.lanes },
     // a search has a place for every lane

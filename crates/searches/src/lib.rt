@@ -7,6 +7,7 @@ ghost use Rattle.std.specs.Prelude.{◌≡◌, ℕ, true, map, length, IfOk, vec
 ghost use Rattle.rooms.specs.Rooms.{at};
 ghost use Rattle.tables.specs.Tables.{meaning_in};
 ghost use Rattle.floor.specs.Floor.{leaving, entering as into};
+ghost use Rattle.floor.specs.Meaning.{Lawful};
 ghost use Rattle.labelling.specs.Table.{label as outcome_of};
 ghost use Rattle.labelling.specs.Steps.{outcome};
 ghost use Rattle.labels.specs.Labels.{marks_in, lanes_in, came_out};
@@ -49,6 +50,7 @@ fn label_lanes<'a>(
     requires trays { length trays.now ≡ vec_len tables.now.lanes }
     requires out { RoomsAt tables.now trays.now leaving out_rooms.now }
     requires into { RoomsAt tables.now trays.now into in_rooms.now }
+    requires lawful { Lawful (meaning_in tables.now) }
     requires plan { is_plan (meaning_in tables.now) (at trays.now) ≡ true }
     ensures outcome { outcome (meaning_in tables.now) (at trays.now) ≡ came_out result (marks_in labels.new) }
     ensures falls { Falls (marks_in labels.new) }
@@ -85,6 +87,7 @@ impl Search {
     pub fn find(&mut self, tables: &Tables, trays: &[u32]) -> Option<u32>
         requires lanes { vec_len self.old.out_rooms ≡ vec_len tables.now.lanes }
         requires trays { length trays.now ≡ vec_len tables.now.lanes }
+        requires lawful { Lawful (meaning_in tables.now) }
         requires plan { is_plan (meaning_in tables.now) (at trays.now) ≡ true }
         ensures found { Found (meaning_in tables.now) (at trays.now) result self.new }
         ensures lanes { vec_len self.new.out_rooms ≡ vec_len self.old.out_rooms }
@@ -112,6 +115,7 @@ impl Search {
 
     // Writes the cut that the labels show: a byte for each lane and one for each station.
     pub fn show_cut(&self, tables: &Tables, lanes: &mut Vec<u8>, stations: &mut Vec<u8>)
+        requires lawful { Lawful (meaning_in tables.now) }
         requires search { vec_len self.now.out_rooms ≡ vec_len tables.now.lanes }
         requires lanes { vec_len lanes.old ≡ vec_len tables.now.lanes }
         requires stations { vec_len stations.old ≡ tables.now.stations }

@@ -10,7 +10,7 @@ use Rattle.tables.specs.Agreement.{Agrees}
 use Rattle.tables.specs.Told.{SidesTold, SidesCapped, LanesTold}
 use Rattle.tables.specs.declared.tables.TableLane.{TableLane}
 use Rattle.tables.specs.declared.tables.TableSide.{TableSide}
-use Rattle.tables.proofs.Agreeing.{same_place, same_count, same_lane_at, agrees_rules, agrees_lawful}
+use Rattle.tables.proofs.Agreeing.{same_place, same_count, same_lane_at, agrees_rules}
 use Rattle.tables.proofs.Telling.{told_agrees}
 
 pub record Held (n a b : ℕ) (lanes : List TableLane) (rows : List TableSide) (caps : List ℕ) : Type 0 where
@@ -22,7 +22,6 @@ pub record Held (n a b : ℕ) (lanes : List TableLane) (rows : List TableSide) (
       → get_or (side_in rows s).numbers p 0 ≡ lane_at (table_floor n a b lanes) (end_of s) (station_of s) p
   pub out : (e : ℕ) → e < length lanes → (lane_in lanes e).out_position ≡ place (table_floor n a b lanes) leaving (lane_in lanes e).from e
   pub into : (e : ℕ) → e < length lanes → (lane_in lanes e).in_position ≡ place (table_floor n a b lanes) entering (lane_in lanes e).to e
-  pub laws : Lawful (table_meaning n a b lanes rows caps)
   pub bounds : (s : ℕ) → s < 2 * n → (side_in rows s).start + 2 ^ (side_in rows s).width ≤ length caps
 
 module _ (M : Meaning) (lawful : Lawful M) (n a b : ℕ) (lanes : List TableLane) (rows : List TableSide) (caps : List ℕ)
@@ -62,11 +61,9 @@ module _ (M : Meaning) (lawful : Lawful M) (n a b : ℕ) (lanes : List TableLane
       t.«in» ∙ sym (same_place M (table_meaning n a b lanes rows caps) agrees entering (M.floor.end entering e) e (omega arith))
       ∙ ap (λ v. place (table_floor n a b lanes) entering v e) (sym t.to)
 
-  -- the tables are lawful, and hold what they say
   pub all_held : Held n a b lanes rows caps
   all_held = record {
     rules = agrees_rules M (table_meaning n a b lanes rows caps) agrees lawful.rules;
-    laws = agrees_lawful M (table_meaning n a b lanes rows caps) agrees lawful;
     all = long;
     widths = λ s h. (sided.each s (omega arith)).all ∙ sym (same_count M (table_meaning n a b lanes rows caps) agrees (end_of s) (station_of s));
     narrow = λ s h. (sided.each s (omega arith)).few;

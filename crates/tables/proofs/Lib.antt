@@ -1,4 +1,3 @@
 pub mod Agreeing
 pub mod Telling
 pub mod Holding
-pub mod Lawful

@@ -1,5 +1,5 @@
 -- The floor and the caps that stand in the parts of tables.
-use Rattle.std.specs.Prelude.{ℕ, ◌+◌, Bool, cond, List, [], length, slice_index, slice_index_or}
+use Rattle.std.specs.Prelude.{ℕ, ◌+◌, cond, List, [], length, slice_index, slice_index_or}
 use Rattle.floor.specs.Floor.{Floor, side}
 use Rattle.floor.specs.Meaning.{Meaning}
 use Rattle.tables.specs.declared.tables.TableLane.{TableLane}
@@ -23,14 +23,10 @@ table_floor stations stock despatch lanes =
       end = λ d e. cond d (lane_in lanes e).to (lane_in lanes e).from;
     }
 
--- the cap of a set of the lanes that have the end d at station i: the caps of a side stand from the place where they begin
-abbrev pub table_caps : List TableSide → List ℕ → Bool → ℕ → ℕ → ℕ
-table_caps sides caps d i X = slice_index caps ((side_in sides (side d i)).start + X)
-
--- the floor and the caps
+-- the floor, and the caps of each side from the place where they begin
 abbrev pub table_meaning : ℕ → ℕ → ℕ → List TableLane → List TableSide → List ℕ → Meaning
 table_meaning stations stock despatch lanes sides caps =
     record {
       floor = table_floor stations stock despatch lanes;
-      cap = λ d i X. table_caps sides caps d i X;
+      cap = λ d i X. slice_index caps ((side_in sides (side d i)).start + X);
     }

@@ -1,9 +1,8 @@
 // What a plant answers, in tables.
-ghost use Rattle.std.specs.Prelude.{◌≡◌, ℕ, ◌+◌, ◌*◌, ◌^◌, ◌<◌, ◌≤◌, Bool, true, vec_len, ◌≢◌, nat_le, slice_index};
-ghost use Rattle.polymatroid.specs.Tables.{broken, every};
-ghost use Rattle.floor.specs.Numbers.{most_stations, most_lanes, most_on_side, top_cap};
-ghost use Rattle.floor.specs.Floor.{leaving, entering, end_of, station_of, place, count, lane_at, width as side_width};
-ghost use Rattle.tables.specs.Parts.{lane_in, side_in, table_floor, table_caps};
+ghost use Rattle.std.specs.Prelude.{◌≡◌, ℕ, ◌+◌, ◌*◌, ◌^◌, ◌<◌, ◌≤◌, vec_len, slice_index};
+ghost use Rattle.floor.specs.Numbers.{most_stations, most_lanes, most_on_side};
+ghost use Rattle.floor.specs.Floor.{leaving, entering, end_of, station_of, place, lane_at, width as side_width};
+ghost use Rattle.tables.specs.Parts.{lane_in, side_in, table_floor};
 
 use plant::MOST_ON_SIDE;
 
@@ -59,18 +58,6 @@ pub struct Tables {
     ghost out_placed: { ((e : ℕ) → e < vec_len lanes → (lane_in lanes.items e).out_position ≡ place (table_floor stations stock despatch lanes.items) leaving (lane_in lanes.items e).from e) },
     // each lane has its position at the side that it enters
     ghost in_placed: { ((e : ℕ) → e < vec_len lanes → (lane_in lanes.items e).in_position ≡ place (table_floor stations stock despatch lanes.items) entering (lane_in lanes.items e).to e) },
-    // the stock is not the despatch
-    ghost poles_differ: { (stock ≢ despatch) },
-    // no lane leads from a station to itself
-    ghost ends_differ: { ((e : ℕ) → e < vec_len lanes → (lane_in lanes.items e).from ≢ (lane_in lanes.items e).to) },
-    // no lane enters the stock
-    ghost stock_clear: { ((e : ℕ) → e < vec_len lanes → (lane_in lanes.items e).to ≢ stock) },
-    // no lane leaves the despatch
-    ghost despatch_clear: { ((e : ℕ) → e < vec_len lanes → (lane_in lanes.items e).from ≢ despatch) },
-    // the caps of a side keep the laws of a side
-    ghost laws: { ((d : Bool) (i : ℕ) → i < stations → broken (count (table_floor stations stock despatch lanes.items) d i) (table_caps sides.items caps.items d i) ≡ 0) },
-    // no cap is above the top
-    ghost capped: { ((d : Bool) (i : ℕ) → i < stations → every (2 ^ count (table_floor stations stock despatch lanes.items) d i) (λ X. nat_le (table_caps sides.items caps.items d i X) top_cap) ≡ true) },
     // the caps of every side's sets are there
     ghost held: { ((s : ℕ) → s < 2 * stations → (side_in sides.items s).start + 2 ^ (side_in sides.items s).width ≤ vec_len caps) },
 }

@@ -14,7 +14,7 @@ loop-station-preserved c =
     let station = c.loop-station.station in (
       filled_more (λ i. cond (near_by_rooms (meaning_in c.args.tables.now) c.args.in_rooms.now (marks_in c.args.labels.now) i) 1 0) bytes
           station c.from.result (omega (arith, c.loop-station-test.true, c.loop-station.invariant.1, c.requires.stations))
-          (c.from.ensures ∙ byte_is _ _ c.is_near.ensures) c.loop-station.invariant.0,
+          (c.from.ensures ∙ byte_is _ _ c.is_near.ensures.by_rooms) c.loop-station.invariant.0,
       length-set bytes station c.from.result ∙ c.loop-station.invariant.1,
     )
 

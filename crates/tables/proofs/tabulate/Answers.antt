@@ -1,10 +1,6 @@
 -- Every row tells of the plant, which is lawful, so the tables hold what they say.
-use Rattle.std.proofs.Common.{ℕ, ◌^◌, ◌<◌, leb, length, vec_items, vec_len, arith}
-use Rattle.std.proofs.lemmas.Bool.{le-leb}
-use Rattle.polymatroid.proofs.Tables.{named, every_from}
-use Rattle.floor.specs.Floor.{leaving, entering, count}
-use Rattle.floor.specs.Numbers.{top_cap}
-use Rattle.tables.specs.Parts.{table_floor, table_caps}
+use Rattle.std.proofs.Common.{ℕ, ◌<◌, length, vec_items, vec_len, arith}
+use Rattle.floor.specs.Floor.{leaving, entering}
 use Rattle.tables.proofs.Holding.{all_held}
 use Rattle.tables.proofs.tabulate.Goals as goal
 
@@ -20,9 +16,6 @@ invariant_of-result g c =
     (vec_items sides) (vec_items caps) c.stations-stations.ensures c.stock.ensures c.despatch.ensures c.in_ok-lanes.ensures made.told
     made.capped in
     let rules = held.rules in
-    let laws = held.laws.laws in
-    let k = count (table_floor c.stations-stations.result c.stock.result c.despatch.result (vec_items lanes)) in
-    let cap_of = table_caps (vec_items sides) (vec_items caps) in
     let on : (e : ℕ) → e < vec_len lanes → e < length (vec_items lanes) = λ e h. omega (arith, lanes.ok.0) in
     record {
       two_stations = rules.two_stations;
@@ -38,11 +31,5 @@ invariant_of-result g c =
       placed = held.placed;
       out_placed = λ e h. held.out e (on e h);
       in_placed = λ e h. held.into e (on e h);
-      poles_differ = rules.poles_differ;
-      ends_differ = λ e h. rules.ends_differ leaving e (on e h);
-      stock_clear = λ e h. rules.poles_clear leaving e (on e h);
-      despatch_clear = λ e h. rules.poles_clear entering e (on e h);
-      laws = λ d i h. (named (k d i) (cap_of d i)).passes (laws d i h).0;
-      capped = λ d i h. every_from (2 ^ k d i) (λ X. leb (cap_of d i X) top_cap) (λ X l. le-leb (cap_of d i X) top_cap ((laws d i h).1 X l));
       held = λ s h. omega (arith, caps.ok.0, held.bounds s h);
     }

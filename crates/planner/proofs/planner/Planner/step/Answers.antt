@@ -6,7 +6,6 @@ use Rattle.labels.specs.Labels.{signed_state}
 use Rattle.calls.specs.Events.{at}
 use Rattle.searches.specs.Found.{Found, kept_move}
 use Rattle.tables.specs.Tables.{meaning_in}
-use Rattle.tables.proofs.Lawful.{tables_lawful}
 use Rattle.planner.specs.Planning.{Movable}
 use Rattle.planner.proofs.Stepping.{movable, moved_plan, moved_does}
 use Rattle.planner.proofs.planner.Planner.step.Goals as goal
@@ -20,7 +19,7 @@ move_trays-requires c =
     let s = c.find.new.self in
     let all : length xs ≡ length (vec_items p.tables.lanes) = omega (arith, p.trays.ok.0, p.tables.lanes.ok.0, p.all_trays) in
     let found = subst (λ zs. Found M (at zs) (Some n) s) c.as_slice.ensures.value c.in-Some.ensures.found in
-    subst⁻¹ (λ path. Movable path n xs) c.as_slice-2.ensures.value (movable M (tables_lawful p.tables) xs all p.plan s n found)
+    subst⁻¹ (λ path. Movable path n xs) c.as_slice-2.ensures.value (movable M p.lawful xs all p.plan s n found)
 
 pub invariant_of-self-3 : goal.invariant_of-self-3
 invariant_of-self-3 c =
@@ -35,8 +34,8 @@ invariant_of-self-3 c =
     let same : length ys ≡ length xs = omega (arith, c.move_trays.ensures.len, p.trays.ok.0, c.move_trays.new.trays.ok.0) in
     let each : (e : ℕ) → get_or ys e 0 ≡ shifted n (kept_move s n).lanes (at xs) e =
     λ e. c.move_trays.ensures.each e ∙ ap (λ path. shifted n (map signed_state path) (at xs) e) c.as_slice-2.ensures.value in
-    let plan = moved_plan M (tables_lawful p.tables) xs all p.plan s n found ys same each in
-    record { all_trays = search rules; all_searched = search rules; all_lanes = search rules; all_stations = search rules; plan = plan; lanes_shown = (λ h. absurd (mixed _ c.if-self.false h)); stations_shown = (λ h. absurd (mixed _ c.if-self.false h)) }
+    let plan = moved_plan M p.lawful xs all p.plan s n found ys same each in
+    record { lawful = p.lawful; all_trays = search rules; all_searched = search rules; all_lanes = search rules; all_stations = search rules; plan = plan; lanes_shown = (λ h. absurd (mixed _ c.if-self.false h)); stations_shown = (λ h. absurd (mixed _ c.if-self.false h)) }
   where
     mixed : (b : Bool) → b ≡ false → b ≡ true → ⊥
     mixed b h g = let z : ◌≡◌ {A = ℕ} 0 1 = cc in omega arith
@@ -58,6 +57,6 @@ returns c =
     record {
       same = refl;
       does =
-          moved_does M (tables_lawful p.tables) xs all p.plan s n found ys same each p.moves c.one_more-self.result c.len.result
+          moved_does M p.lawful xs all p.plan s n found ys same each p.moves c.one_more-self.result c.len.result
           p.finished c.if-self.false long c.one_more-self.ensures;
     }

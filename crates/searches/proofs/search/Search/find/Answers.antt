@@ -7,7 +7,6 @@ use Rattle.floor.specs.Floor.{leaving, entering}
 use Rattle.rooms.specs.Rooms.{at}
 use Rattle.calls.proofs.Loads.{passed_is_plan}
 use Rattle.tables.specs.Tables.{meaning_in}
-use Rattle.tables.proofs.Lawful.{tables_lawful}
 use Rattle.labels.specs.Labels.{marks_in, signed_state, came_out}
 use Rattle.moves.specs.Amount.{RoomsAt, amount_by_rooms}
 use Rattle.moves.specs.Paths.{Among}
@@ -20,7 +19,7 @@ returns-in_default c =
     let f = at c.args.trays.now in
     let marks = marks_in c.label_lanes.new.labels in
     let came = c.label_lanes.ensures.outcome ∙ ap (λ r. came_out r marks) c.in_default.is in
-    let found = none_found (meaning_in t) (tables_lawful t) f (passed_is_plan (meaning_in t) f c.requires.plan) marks came in
+    let found = none_found (meaning_in t) c.requires.lawful f (passed_is_plan (meaning_in t) f c.requires.plan) marks came in
     record {
       found = (found.0, record { labelled = found.1; measured = λ e l. c.measure_into-2.ensures.measured.each e (omega (arith, t.lanes.ok.0)) });
       lanes = c.measure_into.ensures.len;
@@ -32,7 +31,7 @@ amount_of-requires c =
     let f = at c.args.trays.now in
     let lanes = vec_items c.read_back.new.path in
     let read =
-    path_read (meaning_in t) (tables_lawful t) f (passed_is_plan (meaning_in t) f c.requires.plan) (vec_len t.lanes) t.lanes.ok.0 c.label_lanes.result
+    path_read (meaning_in t) c.requires.lawful f (passed_is_plan (meaning_in t) f c.requires.plan) (vec_len t.lanes) t.lanes.ok.0 c.label_lanes.result
     c.in-Some.field-0-0 c.in-Some.last (marks_in c.label_lanes.new.labels) (map signed_state lanes) c.label_lanes.ensures.outcome
     c.in-Some.is c.in-Some.ensures.last c.read_back.ensures.states in
     record {
@@ -49,7 +48,7 @@ returns c =
     let f = at c.args.trays.now in
     let lanes = vec_items c.read_back.new.path in
     let read =
-    path_read (meaning_in t) (tables_lawful t) f (passed_is_plan (meaning_in t) f c.requires.plan) (vec_len t.lanes) t.lanes.ok.0 c.label_lanes.result
+    path_read (meaning_in t) c.requires.lawful f (passed_is_plan (meaning_in t) f c.requires.plan) (vec_len t.lanes) t.lanes.ok.0 c.label_lanes.result
     c.in-Some.field-0-0 c.in-Some.last (marks_in c.label_lanes.new.labels) (map signed_state lanes) c.label_lanes.ensures.outcome
     c.in-Some.is c.in-Some.ensures.last c.read_back.ensures.states in
     let amount = c.amount_of.ensures ∙ ap (λ p. amount_by_rooms (meaning_in t) f (map signed_state p)) c.as_slice-5.ensures.value in

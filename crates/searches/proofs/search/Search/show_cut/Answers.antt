@@ -4,7 +4,6 @@ use mathlib.Core.Path.{subst⁻¹}
 use Rattle.labels.specs.Labels.{marks_in}
 use Rattle.cuts.specs.Cut.{EnteringRooms, near_byte, byte_near, cut_byte}
 use Rattle.tables.specs.Tables.{meaning_in}
-use Rattle.tables.proofs.Lawful.{tables_lawful}
 use Rattle.searches.specs.Found.{Ready, CutShown}
 use Rattle.searches.proofs.Refills.{refilled_is}
 use Rattle.searches.proofs.Shown.{cut_shown}
@@ -35,6 +34,6 @@ returns c =
       shown = λ f ready.
           subst⁻¹ (λ xs. CutShown (meaning_in t) f xs (take stations.len (ss ++ drop (length ss) stations.items))) lanes_are
           (subst⁻¹ (λ xs. CutShown (meaning_in t) f ls xs) stations_are
-          (cut_shown (meaning_in t) (tables_lawful t) f marks ls ss ready.labelled (omega (arith, lanes_len, c.requires.lanes, t.lanes.ok.0))
+          (cut_shown (meaning_in t) c.requires.lawful f marks ls ss ready.labelled (omega (arith, lanes_len, c.requires.lanes, t.lanes.ok.0))
           (omega (arith, stations_len, c.requires.stations)) (near f ready) sides));
     }

@@ -2,6 +2,10 @@
 // and output, so that all work on the bytes is done elsewhere.
 #![tactic(auto)]
 
+ghost use Rattle.std.specs.Prelude.{◌≡◌};
+ghost use Rattle.std.specs.Process.{exit_status};
+ghost use Rattle.console.specs.Ending.{status_told, RefusalFails};
+
 use std::alloc::AllocError;
 use std::io;
 use std::io::Read;
@@ -55,7 +59,9 @@ pub fn read_file(rt: &HostRuntime, most_bytes: u32) -> io::Result<Vec<u8>> {
 }
 
 // Prints an answer. A refusal is an answer too, but the program ends with status 1.
-pub fn print_answer(rt: &HostRuntime, answer: Answer) -> Result<(), Failure> {
+pub fn print_answer(rt: &HostRuntime, answer: Answer) -> Result<(), Failure>
+    ensures { RefusalFails answer result }
+{
     match answer {
         Answer::Listing(lines) => {
             rt.write_all(lines.as_slice())?;
@@ -85,9 +91,11 @@ pub fn tell_failure(rt: &HostRuntime, program: &str, ending: &Result<(), Failure
 }
 
 // The status that a program ends with.
-pub fn status_of(ending: Result<(), Failure>) -> ExitCode {
+pub fn status_of(ending: Result<(), Failure>) -> ExitCode
+    ensures { exit_status result ≡ status_told ending }
+{
     match ending {
-        Ok(()) => ExitCode::SUCCESS,
-        Err(_) => ExitCode::FAILURE,
+        Ok(()) => ExitCode::from(0),
+        Err(_) => ExitCode::from(1),
     }
 }

@@ -4,7 +4,7 @@ use Rattle.polymatroid.specs.Tables.{rises, bows}
 use Rattle.polymatroid.specs.Kinds.{Groups, own}
 use Rattle.floor.specs.Numbers.{most_on_side, top_cap}
 use Rattle.plantformat.specs.Numbers.{most_groups}
-use Rattle.plantformat.specs.declared.Law.TheVariants.{Empty, Grows, Bends}
+use Rattle.plant.specs.declared.refusals.Law.TheVariants.{Empty, Grows, Bends}
 use Rattle.plantformat.specs.declared.RecordFault.{RecordFault}
 use Rattle.plantformat.specs.declared.RecordFault.TheVariants as rec
 use Rattle.plantformat.specs.declared.LimitFault.{LimitFault}

@@ -10,7 +10,7 @@ ghost use Rattle.plant.specs.Questions.{ends_asked, width_asked, lane_asked, cap
 
 mod refusals;
 
-pub use refusals::{Layer, Reason, Refusal};
+pub use refusals::{Law, Layer, Reason, Refusal};
 
 // A floor has two stations at least, and this many at most.
 pub const MOST_STATIONS: usize = 32;
@@ -18,6 +18,8 @@ pub const MOST_STATIONS: usize = 32;
 pub const MOST_LANES: usize = 64;
 // A side has at most this many lanes.
 pub const MOST_ON_SIDE: usize = 8;
+// A side has at most this many sets of lanes.
+pub const MOST_SETS: usize = 1 << MOST_ON_SIDE;
 // No cap of a set of lanes is above this.
 pub const TOP_CAP: u32 = 1_000_000;
 

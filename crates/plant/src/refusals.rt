@@ -1,6 +1,28 @@
 // Why an input is refused, and how a refusal is told.
-ghost use Rattle.std.specs.Prelude.{◌≡◌};
-ghost use Rattle.plant.specs.Refusals.{number_of, layer_of};
+ghost use Rattle.std.specs.Prelude.{◌≡◌, Some};
+ghost use Rattle.plant.specs.Refusals.{number_of, law_number, law_told, layer_of, layer_word, refused, refusal_words};
+
+use std::fmt;
+
+// A law of the caps that a table or a list of grades can break.
+#[derive(Clone, Copy, Debug, PartialEq, Eq)]
+pub enum Law {
+    // The empty set has cap 0.
+    Empty = 1,
+    // Adding a lane never lowers the cap.
+    Grows = 2,
+    // Two sets have no less than what they make together and what they share.
+    Bends = 3,
+}
+
+impl Law {
+    // The number by which the law is named.
+    pub fn number(self) -> u8
+        ensures { result ≡ law_number self }
+    {
+        self as u8
+    }
+}
 
 // Each reason, in the order of its number.
 #[derive(Clone, Copy, Debug, PartialEq, Eq)]
@@ -22,7 +44,7 @@ pub enum Reason {
     // A second limit for a side.
     SecondLimit,
     // Caps that break a law.
-    Law,
+    Law(Law),
     // A ceiling above the top of all caps.
     Ceiling,
     // A side or a position that is not on the floor.
@@ -43,9 +65,19 @@ impl Reason {
             Reason::Ends => 6,
             Reason::TooMany => 7,
             Reason::SecondLimit => 8,
-            Reason::Law => 9,
+            Reason::Law(_) => 9,
             Reason::Ceiling => 10,
             Reason::OffFloor => 11,
+        }
+    }
+
+    // The number of the law that is broken, and 0 where none is.
+    pub fn law_number(self) -> u8
+        ensures { result ≡ law_told self }
+    {
+        match self {
+            Reason::Law(law) => law.number(),
+            _ => 0,
         }
     }
 
@@ -57,7 +89,7 @@ impl Reason {
             Reason::Framing | Reason::Kind => Layer::Framing,
             Reason::Order | Reason::Size | Reason::Range => Layer::Record,
             Reason::Ends | Reason::TooMany | Reason::SecondLimit => Layer::Floor,
-            Reason::Law => Layer::Limit,
+            Reason::Law(_) => Layer::Limit,
             Reason::Ceiling | Reason::OffFloor => Layer::Pile,
         }
     }
@@ -76,11 +108,54 @@ pub enum Layer {
     Line,
 }
 
-// A refusal as it is told: the place is the first byte of the record at fault, and the law is 0 where no law is named.
+impl fmt::Display for Layer {
+    ghost output = { λ layer. Some (layer_word layer) };
+
+    fn fmt<W: fmt::Write>(&self, f: &mut fmt::Formatter<W>) -> fmt::Result {
+        f.write_str(match self {
+            Layer::Framing => "framing",
+            Layer::Record => "record",
+            Layer::Floor => "floor",
+            Layer::Limit => "limit",
+            Layer::Pile => "pile",
+            Layer::Line => "line",
+        })
+    }
+}
+
+// A refusal as it is told. The place is the first byte of the record at fault, and 0 where there is none.
 #[derive(Clone, Copy, Debug, PartialEq, Eq)]
 pub struct Refusal {
     pub reason: Reason,
     pub layer: Layer,
     pub place: usize,
-    pub law: u8,
+}
+
+impl Refusal {
+    // The refusal for a reason at a place, in the layer where the reason is found.
+    pub fn new(reason: Reason, place: usize) -> Refusal
+        ensures { result ≡ refused reason place }
+    {
+        Refusal {
+            reason,
+            layer: reason.layer(),
+            place,
+        }
+    }
+}
+
+// The number of the reason, the layer, the place and the law.
+impl fmt::Display for Refusal {
+    ghost output = { λ refusal. Some (refusal_words refusal) };
+
+    fn fmt<W: fmt::Write>(&self, f: &mut fmt::Formatter<W>) -> fmt::Result {
+        write!(
+            f,
+            "{} {} at {} law {}",
+            self.reason.number(),
+            self.layer,
+            self.place,
+            self.reason.law_number()
+        )
+    }
 }

@@ -5,8 +5,8 @@ use Rattle.plant.specs.declared.refusals.Reason.TheVariants as reason
 use Rattle.plant.specs.Refusals.{number_of}
 use Rattle.plantformat.specs.declared.Head.{Head}
 use Rattle.plantformat.specs.declared.Lane.{Lane}
-use Rattle.plantformat.specs.declared.Law.{Law}
-use Rattle.plantformat.specs.declared.Law.TheVariants.{Empty, Grows, Bends}
+use Rattle.plant.specs.declared.refusals.Law.{Law}
+use Rattle.plant.specs.declared.refusals.Law.TheVariants.{Empty, Grows, Bends}
 use Rattle.plantformat.specs.declared.FramingFault.TheVariants as framing
 use Rattle.plantformat.specs.declared.RecordFault.TheVariants as rec
 use Rattle.plantformat.specs.declared.LimitFault.TheVariants as lim

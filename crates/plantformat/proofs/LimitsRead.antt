@@ -8,7 +8,7 @@ use Rattle.floor.specs.Numbers.{top_cap}
 use Rattle.plantformat.specs.Numbers.{top_lane, most_groups}
 use Rattle.plantformat.specs.declared.Kind.{Kind}
 use Rattle.plantformat.specs.declared.Kind.TheVariants as kind
-use Rattle.plantformat.specs.declared.Law.TheVariants.{Empty, Grows, Bends}
+use Rattle.plant.specs.declared.refusals.Law.TheVariants.{Empty, Grows, Bends}
 use Rattle.plantformat.specs.declared.FloorFault.{FloorFault}
 use Rattle.plantformat.specs.Bytes.{word, long}
 use Rattle.plantformat.specs.Records.{Limit, table, groups, grades, side_of}

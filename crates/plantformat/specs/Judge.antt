@@ -8,8 +8,8 @@ use Rattle.plantformat.specs.declared.Head.{Head}
 use Rattle.plantformat.specs.declared.Lane.{Lane}
 use Rattle.plantformat.specs.declared.Kind.{Kind}
 use Rattle.plantformat.specs.declared.Kind.TheVariants as kind
-use Rattle.plantformat.specs.declared.Law.{Law}
-use Rattle.plantformat.specs.declared.Law.TheVariants.{Empty, Grows, Bends}
+use Rattle.plant.specs.declared.refusals.Law.{Law}
+use Rattle.plant.specs.declared.refusals.Law.TheVariants.{Empty, Grows, Bends}
 use Rattle.plantformat.specs.declared.FramingFault.{FramingFault}
 use Rattle.plantformat.specs.declared.FramingFault.TheVariants as framing
 use Rattle.plantformat.specs.declared.RecordFault.{RecordFault}

@@ -4,12 +4,13 @@
 #![tactic(auto)]
 
 ghost use Rattle.std.specs.Prelude.{◌≡◌};
-ghost use Rattle.plantformat.specs.Faults.{told, law_number};
+ghost use Rattle.plantformat.specs.Faults.{told};
 ghost use Rattle.plantformat.specs.Promise.{AcceptedFilesEncode, EncodingsAreAccepted, AcceptedPlantsAreLawful};
 ghost use Rattle.plantformat.specs.declared.FloorFault.TheVariants.{Record, Limit};
 ghost use Rattle.plantformat.specs.declared.RecordFault.TheVariants.{Framing};
 
-use plant::{Layer, Reason, Refusal};
+pub use plant::Law;
+use plant::{Reason, Refusal};
 
 // A longer file is refused before anything else.
 pub const MOST_BYTES: usize = 60_000;
@@ -42,30 +43,6 @@ pub struct Lane {
     pub from: usize,
     pub to: usize,
     pub own: u32,
-}
-
-// A law of the caps that a table or a list of grades can break.
-#[derive(Clone, Copy)]
-pub enum Law {
-    // The empty set has cap 0.
-    Empty,
-    // Adding a lane never lowers the cap.
-    Grows,
-    // Two sets have no less than what they make together and what they share.
-    Bends,
-}
-
-impl Law {
-    // The number by which the law is named.
-    pub fn number(self) -> u8
-        ensures { result ≡ law_number self }
-    {
-        match self {
-            Law::Empty => 1,
-            Law::Grows => 2,
-            Law::Bends => 3,
-        }
-    }
 }
 
 // A fault in how a file is cut into records. Every fault has the place of its record, its first byte.
@@ -124,43 +101,28 @@ impl From<LimitFault> for FloorFault {
     }
 }
 
-// The refusal of a plant file for a reason other than a law.
-fn refusal(reason: Reason, place: usize) -> Refusal
-    ensures { result ≡ Rattle.plantformat.specs.Faults.told_of reason place }
-{
-    Refusal {
-        reason,
-        layer: reason.layer(),
-        place,
-        law: 0,
-    }
-}
-
 // A fault as it is told: number, layer, place and law.
-pub fn tell(fault: FloorFault) -> Refusal
-    ensures { result ≡ told fault }
-{
-    match fault {
-        FloorFault::Record(RecordFault::Framing(FramingFault::Length { at })) => refusal(
-            Reason::Framing,
-            at,
-        ),
-        FloorFault::Record(RecordFault::Framing(FramingFault::Kind { at })) => refusal(
-            Reason::Kind,
-            at,
-        ),
-        FloorFault::Record(RecordFault::Order { at }) => refusal(Reason::Order, at),
-        FloorFault::Record(RecordFault::Size { at }) => refusal(Reason::Size, at),
-        FloorFault::Record(RecordFault::Range { at }) => refusal(Reason::Range, at),
-        FloorFault::Ends { at } => refusal(Reason::Ends, at),
-        FloorFault::TooMany { at } => refusal(Reason::TooMany, at),
-        FloorFault::SecondLimit { at } => refusal(Reason::SecondLimit, at),
-        FloorFault::Limit(LimitFault::Breaks { at, law }) => Refusal {
-            reason: Reason::Law,
-            layer: Layer::Limit,
-            place: at,
-            law: law.number(),
-        },
+impl From<FloorFault> for Refusal {
+    ghost from_gives = { λ fault refusal. refusal ≡ told fault };
+
+    fn from(fault: FloorFault) -> Refusal {
+        match fault {
+            FloorFault::Record(RecordFault::Framing(FramingFault::Length { at })) => Refusal::new(
+                Reason::Framing,
+                at,
+            ),
+            FloorFault::Record(RecordFault::Framing(FramingFault::Kind { at })) => Refusal::new(
+                Reason::Kind,
+                at,
+            ),
+            FloorFault::Record(RecordFault::Order { at }) => Refusal::new(Reason::Order, at),
+            FloorFault::Record(RecordFault::Size { at }) => Refusal::new(Reason::Size, at),
+            FloorFault::Record(RecordFault::Range { at }) => Refusal::new(Reason::Range, at),
+            FloorFault::Ends { at } => Refusal::new(Reason::Ends, at),
+            FloorFault::TooMany { at } => Refusal::new(Reason::TooMany, at),
+            FloorFault::SecondLimit { at } => Refusal::new(Reason::SecondLimit, at),
+            FloorFault::Limit(LimitFault::Breaks { at, law }) => Refusal::new(Reason::Law(law), at),
+        }
     }
 }
 

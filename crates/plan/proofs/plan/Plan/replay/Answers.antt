@@ -1,8 +1,7 @@
 -- Each turn makes one call more.
-use Rattle.std.proofs.Common.{◌≡◌, [], ◌∷◌, ◌++◌, vec_items, sym, refl, ap, ◌∙◌, append_assoc, append-nil, arith}
+use Rattle.std.proofs.Common.{[], ◌∷◌, ◌++◌, vec_items, sym, ap, ◌∙◌, append_assoc, arith}
 use mathlib.Core.Path.{subst⁻¹}
 use Rattle.std.specs.Vec.Iter.{into_iter_items}
-use Rattle.std.proofs.lemmas.List.{nil_from_length}
 use Rattle.plan.specs.Journal.{Replays}
 use Rattle.plan.proofs.Replaying.{replays_none, replays_more}
 use Rattle.plan.proofs.plan.Plan.replay.Goals as goal
@@ -39,14 +38,3 @@ loop-call-preserved g c =
         subst⁻¹ (λ bs. Replays M p (cs ++ x ∷ []) bs c.call.new.self) c.push_reserved.ensures.items after,
       ),
     )
-
-pub returns : goal.returns
-returns g c =
-    let M = g.P.Plant.meaning in
-    let p = c.args.self.now in
-    let told = c.loop-call.invariant.3 in
-    let cs = told.0 in
-    let none : into_iter_items c.loop-call.call-iterator ≡ [] =
-    nil_from_length (into_iter_items c.loop-call.call-iterator) (omega (arith, c.in-None.ensures.steps, c.loop-call.call-iterator.rest.ok)) in
-    let all : vec_items c.args.calls ≡ cs = told.1 ∙ ap (λ ys. cs ++ ys) none ∙ append-nil cs in
-    record { told = subst⁻¹ (λ xs. Replays M p xs (vec_items c.loop-call.told) c.loop-call.self) all told.2; same = tt }

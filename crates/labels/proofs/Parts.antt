@@ -26,7 +26,7 @@ listed_all h n u e q = listed_from h n 0 u e (λ i l. q i l ∙ ap h (omega arit
 abbrev pub Part : (ℕ → Mark → Mark) → List (Option Label) → List (Option Label) → ℕ → Type 0
 Part f t u y = record {
   changed : (k : ℕ) → k < y → mark (marks u) k ≡ f k (mark (marks t) k);
-  others : (k : ℕ) → y ≤ k → mark (marks u) k ≡ mark (marks t) k
+  others : (k : ℕ) → y ≤ k → mark (marks u) k ≡ mark (marks t) k;
 }
 
 module _ (f : ℕ → Mark → Mark) (t : List (Option Label)) where
@@ -34,7 +34,7 @@ module _ (f : ℕ → Mark → Mark) (t : List (Option Label)) where
   pub part_more : (u v : List (Option Label)) (y : ℕ) (o : Option Label) → y < length u → v ≡ set u y o → mark_of o ≡ f y (mark_of (get_or u y None)) → Part f t u y → Part f t v (y + 1)
   part_more u v y o h e q p = record {
     changed = λ k l. grind (arith, common_steps, mark_at, p.changed k, p.others k);
-    others = λ k l. grind (arith, common_steps, mark_at, p.others k)
+    others = λ k l. grind (arith, common_steps, mark_at, p.others k);
   }
 
   -- all lanes

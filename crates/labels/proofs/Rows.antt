@@ -1,11 +1,10 @@
 -- The states of a path are those from its end back along the names, in reverse.
-use Rattle.std.proofs.Common.{◌≡◌, ℕ, zero, suc, ◌+◌, ◌-◌, ◌<◌, Bool, true, false, List, [], ◌∷◌, ◌++◌, map, reverse, Some, None, Option, sym, refl, ap, ◌∙◌, subst, add-one, arith}
+use Rattle.std.proofs.Common.{◌≡◌, ℕ, zero, suc, ◌+◌, ◌-◌, List, [], ◌∷◌, ◌++◌, map, reverse, sym, refl, ap, ◌∙◌, add-one, arith}
 use mathlib.Core.List.{reverse-cons}
 use Rattle.std.proofs.lemmas.List.{reverse-append, map-append}
-use Rattle.network.specs.States.{State, Pole, Plus, Minus, lane_number}
-use Rattle.labelling.specs.Table.{Mark, Blank, Given, signed, mark, state_of, name_of, name, back, path}
+use Rattle.network.specs.States.{State}
+use Rattle.labelling.specs.Table.{Mark, back, path}
 use Rattle.labelling.specs.Steps.{row}
-use Rattle.labels.specs.Paths.{level_of, Lies, Falls}
 
 row_same : (P Q : ℕ → State) (l : ℕ) → ((i : ℕ) → P i ≡ Q i) → row P l ≡ row Q l
 unfolding row

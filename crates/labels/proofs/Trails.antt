@@ -1,5 +1,5 @@
 -- The way back along the names, one lane on.
-use Rattle.std.proofs.Common.{◌≡◌, ℕ, suc, ◌+◌, ◌-◌, ◌<◌, Bool, true, false, List, Some, None, Option, MatchOption, sym, refl, ap, ◌∙◌, subst, add-one, arith}
+use Rattle.std.proofs.Common.{◌≡◌, ℕ, ◌+◌, ◌-◌, ◌<◌, Bool, true, false, List, Some, None, Option, MatchOption, sym, refl, ap, ◌∙◌, subst, add-one, arith}
 use Rattle.network.specs.States.{lane_number}
 use Rattle.labelling.specs.Table.{Mark, signed, mark, name_of, name, back}
 use Rattle.labels.specs.declared.SignedLane.{SignedLane}

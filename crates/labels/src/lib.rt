@@ -55,6 +55,7 @@ pub trait Scan {
     // How many lanes there are.
     ghost size: { Self → ℕ };
 
+    // The number of lanes.
     fn lanes(&self) -> usize
         ensures { result ≡ size self.now };
 
@@ -121,8 +122,7 @@ impl LabelTable {
         ensures last { EndedAt (S.size scan.now) result (marks_in self.new) }
         ensures len { lanes_in self.new ≡ lanes_in self.old }
     {
-        let mut labelling = Labelling { scan, table: self };
-        labelling.run()
+        Labelling { scan, table: self }.run()
     }
 
     // The signed lane that was scanned when a lane was given its label.
@@ -162,7 +162,7 @@ impl LabelTable {
     }
 }
 
-// A labelling that is being made: who gives a label to whom, and the labels of as many lanes.
+// A labelling that is being made: a scan, and a table of as many lanes. Its methods give labels, and keep the scan and the table.
 #[derive(Drop)]
 struct Labelling<'a, S: Scan> {
     scan: &'a S,

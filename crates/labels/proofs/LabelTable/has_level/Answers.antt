@@ -1,5 +1,5 @@
 -- A lane of the level is found among the labels.
-use Rattle.std.proofs.Common.{◌≡◌, true, false, vec_items, vec_len, rules, tests, sym, arith}
+use Rattle.std.proofs.Common.{◌≡◌, true, false, vec_items, vec_len, rules, tests, arith}
 use Rattle.std.proofs.lemmas.Iterator.{cases_from_any, YieldsList-from_slice}
 use Rattle.labelling.specs.Table.{is_at}
 use Rattle.labels.specs.Labels.{mark_of}

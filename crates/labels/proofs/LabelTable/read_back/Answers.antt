@@ -22,7 +22,7 @@ loop-before-preserved c =
       states = cc;
       here = back_more t c.in-Some.at c.name-before.result c.name-before.ensures c.args.last k _ n here;
       left = level_more t c.in-Some.at c.name-before.result c.name-before.ensures c.requires.falls k _ _ n left.0 left.1;
-      capacity = omega arith
+      capacity = omega arith;
     }
 
 pub returns-clause-states : goal.returns-clause-states

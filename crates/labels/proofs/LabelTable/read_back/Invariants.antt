@@ -13,7 +13,7 @@ invariant-loop-before l =
       states : map signed_state (vec_items l.path) ≡ row (back l.fn.last t) (vec_len l.path);
       here : from_state l.before ≡ back l.fn.last t (vec_len l.path + 1);
       left : MatchOption l.before (vec_len l.path ≡ level_of (mark t l.fn.last)) (λ s. (0 < level_of (mark t s.lane)) × (vec_len l.path + level_of (mark t s.lane) ≡ level_of (mark t l.fn.last)));
-      capacity : vec_capacity l.path ≡ vec_capacity l.fn.path
+      capacity : vec_capacity l.path ≡ vec_capacity l.fn.path;
     }
 
 abbrev pub decreases-loop-before : goal.decreases-loop-before

@@ -1,5 +1,5 @@
 -- The first level is that of the labelling.
-use Rattle.std.proofs.Common.{◌≡◌, ◌+◌, ◌-◌, false, List, None, Option, replicate, ap, ◌∙◌, arith}
+use Rattle.std.proofs.Common.{◌+◌, ◌-◌, false, List, None, Option, replicate, ap, ◌∙◌, arith}
 use Rattle.network.specs.States.{Pole}
 use Rattle.labelling.specs.Table.{mark, give, listed}
 use Rattle.labels.specs.declared.Label.{Label}
@@ -15,5 +15,5 @@ loop-level-init g c =
       goes_on = label_start r m (m + 2 - 1) _ (omega arith)
           (c.scan_from.ensures.marks ∙ ap (λ (t : List (Option Label)). listed (λ y. give r (Pole false) 1 y (mark (marks t) y)) m 0) (c.clear.ensures.items ∙ ap (λ n. replicate n None) c.args.self.now.all));
       scan = c.scan_from.ensures.scan;
-      table = c.scan_from.ensures.table
+      table = c.scan_from.ensures.table;
     }

@@ -1,5 +1,5 @@
 -- Each lane is scanned once, so that in the end all are.
-use Rattle.std.proofs.Common.{length, vec_items, ap, arith}
+use Rattle.std.proofs.Common.{ap, arith}
 use Rattle.std.proofs.lemmas.List.{length-map}
 use Rattle.labels.proofs.Sweeps.{swept_all}
 use Rattle.labels.proofs.Labelling.scan_level.Goals as goal

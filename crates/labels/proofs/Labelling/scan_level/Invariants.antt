@@ -8,5 +8,5 @@ abbrev pub invariant-loop-lane : goal.invariant-loop-lane
 invariant-loop-lane g l = record {
   swept : marks_in l.self.table.now ≡ swept (g.S.Scan.rule l.initial.self.scan.now) (g.S.Scan.size l.initial.self.scan.now) l.level l.lane (marks_in l.initial.self.table.now);
   scan : l.self.scan.now ≡ l.initial.self.scan.now;
-  table : l.self.table.ghost_name ≡ l.initial.self.table.ghost_name
+  table : l.self.table.ghost_name ≡ l.initial.self.table.ghost_name;
 }

@@ -80,7 +80,7 @@ module _ (r : State → State → Bool) (m : ℕ) where
   label_falls (Some p) t e = subst Falls (sym (right (Some p) t e).is) (falls_table p.0)
 
   level_is : (l : ℕ) (p : Mark) → is_at l p ≡ true → level_of p ≡ l
-  level_is l Blank q = let z : ◌≡◌ {A = ℕ} 0 1 = cc in absurd (omega arith)
+  level_is l Blank q = cc
   level_is l (Given s x k) q = eqb-true k l q
 
   -- the lane at which the labelling ends has a label of the level

@@ -4,11 +4,13 @@ use Rattle.network.specs.States.{State, Pole}
 use Rattle.labelling.specs.Table.{Mark, mark, give, listed, pass, table_up_to, ending_lane, lane_of_level, Ended, Finished, label_from, label}
 use Rattle.labels.specs.Labels.{marks}
 
+-- functions that agree give the same list
 listed_same : (f h : ℕ → Mark) (n k : ℕ) → ((i : ℕ) → f i ≡ h i) → listed f n k ≡ listed h n k
 unfolding listed
 listed_same f h zero k q = refl
 listed_same f h (suc n) k q = let a = q k in let b = listed_same f h n (suc k) q in cc
 
+-- a table without labels has the marks of an empty one
 blank_mark : (n i : ℕ) → mark (marks (replicate n None)) i ≡ mark [] i
 unfolding mark
 blank_mark zero i = refl

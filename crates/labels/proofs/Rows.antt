@@ -6,6 +6,7 @@ use Rattle.network.specs.States.{State}
 use Rattle.labelling.specs.Table.{Mark, back, path}
 use Rattle.labelling.specs.Steps.{row}
 
+-- states that agree give the same row
 row_same : (P Q : ℕ → State) (l : ℕ) → ((i : ℕ) → P i ≡ Q i) → row P l ≡ row Q l
 unfolding row
 row_same P Q zero h = refl
@@ -17,6 +18,7 @@ unfolding row
 row_more P zero = refl
 row_more P (suc l) = rw add-one (ap (λ r. P 1 ∷ r) (rw add-one at (row_more (λ i. P (suc i)) l)))
 
+-- a row in reverse
 pub row_reversed : (P : ℕ → State) (l : ℕ) → reverse (row P l) ≡ row (λ i. P (suc l - i)) l
 unfolding row
 row_reversed P zero = refl

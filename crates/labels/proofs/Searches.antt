@@ -35,9 +35,11 @@ module _ (t : ℕ → Bool) (n : ℕ) where
   found_first None q = sym (ap (λ b. cond b (Some (first t n)) None) (le-ltb (first t n) n (first_none (λ k h. q k (omega arith) h))))
   found_first (Some e) q = sym (ap (found n) (first_is e q.1 q.2 (λ k h. q.3 k (omega arith) h)) ∙ ap (λ b. cond b (Some e) None) (lt-ltb e n q.1))
 
+  -- there is one below n, where the first that passes is
   pub some_below : (e : ℕ) → e < n → t e ≡ true → ((k : ℕ) → k < e → t k ≡ false) → true ≡ ltb (first t n) n
   some_below e h p q = sym (ap (λ e. ltb e n) (first_is e h p q) ∙ lt-ltb e n h)
 
+  -- there is none below n, where none passes
   pub none_below : ((k : ℕ) → k < n → t k ≡ false) → false ≡ ltb (first t n) n
   none_below q = sym (le-ltb (first t n) n (first_none q))
 

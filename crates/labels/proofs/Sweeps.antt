@@ -6,6 +6,7 @@ use Rattle.labelling.specs.Sweep.{swept}
 use Rattle.labelling.proofs.Sweep.{sweeps_agree}
 use Rattle.labels.proofs.Parts.{listed_all}
 
+-- all lanes
 pub swept_all : (r : State → State → Bool) (m l n : ℕ) (t u : List Mark) → 0 < l → n ≡ m → length u ≡ m → u ≡ swept r m l n t → u ≡ pass r m l t
 unfolding pass
 swept_all r m zero n t u h s e q = absurd (omega arith)

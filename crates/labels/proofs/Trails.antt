@@ -6,14 +6,17 @@ use Rattle.labels.specs.declared.SignedLane.{SignedLane}
 use Rattle.labels.specs.Labels.{is_plus, signed_state, from_state}
 use Rattle.labels.specs.Paths.{level_of, Lies, Falls}
 
+-- a signed lane has the lane's number
 pub number_signed : (b : Bool) (e : ℕ) → lane_number (signed b e) ≡ e
 number_signed true e = refl
 number_signed false e = refl
 
+-- a signed lane lies where the lane has its label
 lies_signed : (t : List Mark) (i : ℕ) (b : Bool) (e : ℕ) → Lies t i (signed b e) → (level_of (mark t e) ≡ i) × (0 < i)
 lies_signed t i true e h = h
 lies_signed t i false e h = h
 
+-- the state before a signed lane is the lane's name
 name_signed : (e : ℕ) (t : List Mark) (b : Bool) (y : ℕ) → name e t (signed b y) ≡ name_of (mark t y)
 unfolding name
 name_signed e t true y = refl

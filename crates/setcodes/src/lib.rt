@@ -38,6 +38,7 @@ pub fn with_position(set: usize, position: usize) -> usize
 }
 
 // How many positions are in a set.
+#[tactic(auto, using(crate::proofs::Sizes::size_is))]
 pub fn size(set: usize) -> usize
     ensures { (k : ℕ) → set < 2 ^ k → result ≡ size k set }
 {

@@ -1,3 +1,4 @@
+-- The size of a set is the number of ones among the binary digits of its code.
 use Rattle.std.proofs.Common.{◌≡◌, ℕ, zero, suc, ◌+◌, ◌*◌, ◌/◌, ◌%◌, ◌^◌, ◌<◌, cond, eqb, refl, sym, ap, ◌∙◌, count_ones, mod-eq_of_lt, arith}
 use Rattle.std.proofs.Math.Numerals.{one-add}
 use lib.Count.{ones}
@@ -5,7 +6,6 @@ use Rattle.std.proofs.lemmas.Nat.{mod-pow-add, mod_below, pow_pos, ones_cat}
 use Rattle.polymatroid.specs.Sets.{has}
 use Rattle.polymatroid.specs.Side.{load}
 use Rattle.polymatroid.specs.Kinds.{size}
-use Rattle.setcodes.proofs.size.Goals as goal
 
 -- a digit is counted if it is 1
 counted : (d : ℕ) → d < 2 → cond (eqb d 1) 1 0 ≡ count_ones d
@@ -24,5 +24,6 @@ low_digits (suc k) X =
     let digit = counted (X / 2 ^ k % 2) (omega arith) in
     omega (arith, ap count_ones split, ones_cat k (X / 2 ^ k % 2) (X % 2 ^ k) (mod_below X (2 ^ k) (pow_pos k)))
 
-pub returns : goal.returns
-returns c = λ k l. let low : c.args.set % 2 ^ k ≡ c.args.set = mod-eq_of_lt l in ap ones (sym low) ∙ sym (low_digits k c.args.set)
+-- a set of positions below k
+pub size_is : (k X : ℕ) → X < 2 ^ k → size k X ≡ count_ones X
+size_is k X l = let low : X % 2 ^ k ≡ X = mod-eq_of_lt l in low_digits k X ∙ ap count_ones low

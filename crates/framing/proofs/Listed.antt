@@ -1,11 +1,10 @@
 -- The first record of a plant file, as it is cut and its kind is found, is that of the definition.
-use Rattle.std.proofs.Common.{◌≡◌, ℕ, List, take, drop, Some, None, Ok, Err, Result, Option, sym, refl, ap, ◌∙◌, cond, Bool, true, false, ◌-◌}
+use Rattle.std.proofs.Common.{◌≡◌, ℕ, List, take, drop, Ok, Err, Result, sym, refl, ap, Bool, true, false, ◌-◌}
 use Rattle.plantformat.specs.declared.Kind.{Kind}
-use Rattle.plantformat.specs.declared.UnlistedKind.{UnlistedKind}
 use Rattle.plantformat.specs.declared.FramingFault.{FramingFault}
 use Rattle.plantformat.specs.declared.FramingFault.TheVariants as framing
 use Rattle.plantformat.specs.Bytes.{word}
-use Rattle.plantformat.specs.Judge.{Frame, frame, kind_of, cut_short, kinded, framed, unless}
+use Rattle.plantformat.specs.Judge.{kind_of, cut_short, kinded, framed, unless}
 use Rattle.plantformat.specs.Kinds.{KindOf}
 use Rattle.framing.specs.Frames.{Parts, parts, cut_at, Framed, frame_shown}
 use Rattle.framing.specs.declared.Frame as code

@@ -24,6 +24,7 @@ pub struct Frame<'a, K> {
 }
 
 // The first record of `bytes`, which lies at the place `at` of the file, with its kind as a number.
+#[tactic(auto, using(crate::proofs::Cuts::cut_is))]
 pub fn cut_record<'a>(bytes: &'a [u8], at: usize) -> Result<Frame<'a, u16>, FramingFault>
     ensures { cut_shown result ≡ cut_at at bytes.now }
 {

@@ -6,8 +6,8 @@ ghost use Rattle.linefloor.proofs.Lawful.{lines_are_lawful};
 ghost use Rattle.lines.specs.Made.{meant};
 
 use crate::line_plant::LinePlant;
-use numerals::contains;
 use plant::{OffFloor, Plant};
+use setcodes::contains;
 
 impl LinePlant {
     // How many lanes a side has: none enter the first station, and none leave the last.

@@ -7,13 +7,13 @@ use Rattle.polymatroid.specs.Sets.{has, without}
 use Rattle.polymatroid.specs.Kinds.{kept, closing, ceiling}
 use Rattle.polymatroid.proofs.Codes.{has_or, has_one, has_without, same_sets}
 use Rattle.polymatroid.proofs.Layers.{kept_below, has_kept}
+use Rattle.plant.specs.Refusals.{refused}
 use Rattle.plant.specs.declared.refusals.Refusal.{Refusal}
 use Rattle.plant.specs.declared.refusals.Reason.TheVariants as reason
 use Rattle.floor.specs.Numbers.{top_cap}
 use Rattle.floor.specs.Floor.{side, sides, count}
-use Rattle.piles.specs.Settings.{pile_refusal, can_close, closed_after, ceilings_after}
+use Rattle.piles.specs.Settings.{can_close, closed_after, ceilings_after}
 use Rattle.piles.specs.Meant.{ClosingCloses, CeilingBounds}
-use Rattle.piles.proofs.Asked.{was_passed}
 
 -- a set without the closed positions and one more
 kept_without : (k m p X : ℕ) → kept k (has (bit_or m (2 ^ p))) X ≡ kept k (has m) (without k X p)
@@ -39,7 +39,7 @@ kept_without k m p X =
 pub closing_closes : ClosingCloses
 unfolding closing
 closing_closes M closed s p long ok =
-    let on : can_close M.floor s p ≡ true = was_passed (can_close M.floor s p) (pile_refusal reason.OffFloor) (sym ok) in
+    let on : can_close M.floor s p ≡ true = grind arith in
     let s_on : s < length closed = grind (arith, nat_tests) in
     let v : ℕ = bit_or (get_or closed s 0) (2 ^ p) in
     let after : closed_after M.floor s p closed ≡ set closed s v = cond-true _ _ _ on in
@@ -58,20 +58,11 @@ closing_closes M closed s p long ok =
           ap (λ m. M.cap d i (kept (count M.floor d i) (has m) X)) same;
     }
 
--- a ceiling that was taken is on the floor and no higher than every cap
-taken : (a b : Bool) (x y : Refusal) → ◌≡◌ {A = Result (Unit {0}) Refusal} (cond a (cond b (Ok tt) (Err x)) (Err y)) (Ok tt) → (a ≡ true) × (b ≡ true)
-taken true true x y e = (refl, refl)
-taken true false x y e = absurd (let z : ◌≡◌ {A = ℕ} 0 1 = cc in omega arith)
-taken false b x y e = absurd (let z : ◌≡◌ {A = ℕ} 0 1 = cc in omega arith)
-
 pub ceiling_bounds : CeilingBounds
 unfolding ceiling
 ceiling_bounds M ceilings s c long ok =
-    let t = taken (ltb s (sides M.floor)) (leb c top_cap) _ _ ok in
-    let on = t.0 in
-    let low = t.1 in
     let both : (ltb s (sides M.floor) && leb c top_cap) ≡ true = grind arith in
-    let s_on : s < length ceilings = omega (arith, ltb-true s (sides M.floor) on) in
+    let s_on : s < length ceilings = grind (arith, nat_tests) in
     let after : ceilings_after M.floor s c ceilings ≡ set ceilings s c = cond-true _ _ _ both in
     record {
       floor = refl;

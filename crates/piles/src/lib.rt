@@ -9,10 +9,12 @@ ghost use Rattle.piles.specs.Meant.{ClosingCloses, CeilingBounds};
 
 mod ceiling;
 mod closing;
+mod cover;
 mod refusals;
 
-pub use ceiling::Ceiling;
-pub use closing::Closing;
+pub use ceiling::{Ceiling, Ceilings};
+pub use closing::{Closing, Closings};
+pub use cover::{Cover, Covered};
 pub use refusals::{MOST_SIDES, check_ceiling, check_closing};
 
 // A closing that is not refused takes its position out of every set of its side, and changes nothing else.

@@ -1,2 +1,1 @@
-pub mod Caps
 pub mod Meant

@@ -54,7 +54,7 @@ impl Cover for Ceilings {
 
     ghost stays_lawful = { λ c. ceilings_lawful (λ side. slice_index c.ceilings side) };
 
-    #[tactic(auto, using(crate::proofs::Caps::ceiling_cap))]
+    #[tactic(auto, using(floor::proofs::Places::side_again), unfolding(polymatroid::specs::Kinds::ceiling))]
     fn cap<P: Plant>(&self, below: &P, side: usize, set: usize) -> Result<u32, OffFloor> {
         let cap = below.cap(side, set)?;
         Ok(self.lowered(side, cap))

@@ -61,7 +61,7 @@ impl Cover for Closings {
 
     ghost stays_lawful = { λ c. closings_lawful (listed c.closed) };
 
-    #[tactic(auto, using(crate::proofs::Caps::closed_cap))]
+    #[tactic(auto, using(floor::proofs::Places::side_again, polymatroid::proofs::Layers::kept_below), unfolding(polymatroid::specs::Kinds::closing))]
     fn cap<P: Plant>(&self, below: &P, side: usize, set: usize) -> Result<u32, OffFloor> {
         let width = below.width(side)?;
         if set >= 1 << width {

@@ -53,6 +53,10 @@ module _ (n d s : ℕ) where
         | inr l ↦ absurd (omega (arith, width_past not_one l))
       ]
 
+  -- such a side has a row behind it
+  pub row_there : (p : ℕ) → p < width (line_floor n d) s → s % 2 ≤ s / 2
+  row_there p there = elim (cases_lt (s / 2) (s % 2)) [ inl l ↦ absurd (omega (arith, width_first (omega arith))) | inr l ↦ l ]
+
   -- neither of the two sides that have none
   pub width_whole : (s ≡ 1 → ⊥) → (s ≡ 2 * (n - 1) → ⊥) → s < 2 * n → width (line_floor n d) s ≡ d
   width_whole not_one not_last on = width_some not_one before

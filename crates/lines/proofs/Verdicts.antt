@@ -5,7 +5,7 @@ use Rattle.std.proofs.lemmas.Bool.{eqb-true, leb-true}
 use Rattle.plant.specs.declared.refusals.Refusal.{Refusal}
 use Rattle.floor.specs.Numbers.{most_stations, most_lanes, most_on_side}
 use Rattle.linefloor.specs.Line.{grades_low, grades_fall}
-use Rattle.lines.specs.Made.{ranged, grade_of, line_judged, SameGrades}
+use Rattle.lines.specs.Made.{ranged, grade_of, line_judged}
 
 -- a test that was passed on the way to a verdict
 passed : (b : Bool) (r : Result (Unit {0}) Refusal) (x : Refusal) → cond b r (Err x) ≡ Ok tt → (b ≡ true) × (r ≡ Ok tt)
@@ -37,16 +37,3 @@ accepted_kept n d gs e =
       low = ap (λ k. grades_low k (grade_of gs)) (sym all) ∙ l.0;
       fall = ap (λ k. grades_fall k (grade_of gs)) (sym all) ∙ f.0;
     }
-
--- lists of the same grades have the same grades as functions
-pub same_grade : (gs hs : List ℕ) → SameGrades gs hs → grade_of hs ≡ grade_of gs
-same_grade gs hs h = λ i j. h j i
-
--- zeros are no grades
-pub no_grades : (n : ℕ) → ◌≡◌ {A = ℕ → ℕ} (grade_of (replicate n 0)) (λ j. 0)
-no_grades n = λ i j. zero_at n j i
-  where
-    zero_at : (n j : ℕ) → ◌≡◌ {A = ℕ} (get_or (replicate n 0) j 0) 0
-    zero_at zero j = refl
-    zero_at (suc n) zero = refl
-    zero_at (suc n) (suc j) = zero_at n j

@@ -1,23 +1,11 @@
 // Making a line.
-ghost use Rattle.std.specs.Prelude.{◌≡◌, ◌≤◌, length, Ok};
-ghost use Rattle.floor.specs.Numbers.{most_on_side};
-ghost use Rattle.lines.specs.Made.{line_judged, IsLine, IsEmpty, LineMade, SameGrades};
+ghost use Rattle.std.specs.Prelude.{◌≡◌, Ok};
+ghost use Rattle.lines.specs.Made.{line_judged, IsLine, IsEmpty, LineMade};
 
 use crate::checks::check_line;
 use crate::line_plant::LinePlant;
-use plant::{MOST_ON_SIDE, Refusal};
-
-// The grades with 0 behind them.
-fn filled_up(grades: &[u32]) -> [u32; MOST_ON_SIDE]
-    requires { length grades.now ≤ most_on_side }
-    ensures { SameGrades grades.now result }
-{
-    let mut all = [0; MOST_ON_SIDE];
-    for j in 0..grades.len() {
-        all[j] = grades[j];
-    }
-    all
-}
+use arrayvec::ArrayVec;
+use plant::Refusal;
 
 impl LinePlant {
     // The line that was accepted.
@@ -27,19 +15,18 @@ impl LinePlant {
     {
         LinePlant {
             stations,
-            between,
-            grades: filled_up(grades),
+            grades: ArrayVec::try_from(grades).unwrap(),
         }
     }
 
     // The empty floor: two stations, stock 0, despatch 1, no lane.
+    #[tactic(auto, unfolding(linefloor::specs::Line::grades_low, linefloor::specs::Line::grades_fall, polymatroid::specs::Tables::every))]
     fn empty() -> LinePlant
         ensures { IsEmpty result }
     {
         LinePlant {
             stations: 2,
-            between: 0,
-            grades: [0; MOST_ON_SIDE],
+            grades: ArrayVec::new(),
         }
     }
 }

@@ -1,8 +1,9 @@
 // Sets of positions of a side by their codes: the binary digits of a code tell which positions are in its set.
 #![tactic(auto)]
 
-ghost use Rattle.std.specs.Prelude.{◌≡◌, ◌/◌, ◌%◌, ◌^◌, ◌<◌, bit_or};
+ghost use Rattle.std.specs.Prelude.{◌≡◌, ℕ, ◌/◌, ◌%◌, ◌^◌, ◌<◌, bit_or};
 ghost use Rattle.polymatroid.specs.Sets.{has};
+ghost use Rattle.polymatroid.specs.Kinds.{size};
 
 // The set of one position.
 pub fn only(position: usize) -> usize
@@ -34,4 +35,12 @@ pub fn with_position(set: usize, position: usize) -> usize
     ensures { result ≡ bit_or set (2 ^ position) }
 {
     set | only(position)
+}
+
+// How many positions are in a set.
+#[tactic(auto, using(crate::proofs::Sizes::size_is))]
+pub fn size(set: usize) -> usize
+    ensures { (k : ℕ) → set < 2 ^ k → result ≡ size k set }
+{
+    set.count_ones() as usize
 }

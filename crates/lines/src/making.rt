@@ -1,5 +1,5 @@
 // Making a line.
-ghost use Rattle.std.specs.Prelude.{◌≡◌, Ok};
+ghost use Rattle.std.specs.Prelude.{◌≡◌, length, Ok};
 ghost use Rattle.lines.specs.Made.{line_judged, IsLine, IsEmpty, LineMade};
 
 use crate::checks::check_line;
@@ -9,9 +9,9 @@ use plant::Refusal;
 
 impl LinePlant {
     // The line that was accepted.
-    fn accepted(stations: usize, between: usize, grades: &[u32]) -> LinePlant
-        requires { line_judged stations between grades.now ≡ Ok tt }
-        ensures { IsLine stations between grades.now result }
+    fn accepted(stations: usize, grades: &[u32]) -> LinePlant
+        requires { line_judged stations (length grades.now) grades.now ≡ Ok tt }
+        ensures { IsLine stations (length grades.now) grades.now result }
     {
         LinePlant {
             stations,
@@ -42,7 +42,7 @@ pub fn make_line(
     ensures made { LineMade stations between grades.now result.0 result.1 }
 {
     match check_line(stations, between, grades) {
-        Ok(()) => (LinePlant::accepted(stations, between, grades), Ok(())),
+        Ok(()) => (LinePlant::accepted(stations, grades), Ok(())),
         Err(refusal) => (LinePlant::empty(), Err(refusal)),
     }
 }

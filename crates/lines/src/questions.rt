@@ -1,14 +1,23 @@
 // The answers of a line plant.
-ghost use Rattle.std.specs.Prelude.{◌≡◌, ◌*◌, ◌<◌, ◌≤◌, slice_index};
+ghost use Rattle.std.specs.Prelude.{◌≡◌, ℕ, ◌*◌, ◌^◌, ◌<◌, ◌≤◌, slice_index, sum, IfOk};
 ghost use Rattle.arrayvec.specs.ArrayVec.{array_vec_len};
 ghost use Rattle.polymatroid.specs.Kinds.{graded};
 ghost use Rattle.floor.specs.Floor.{end_of, station_of, width as side_width, lane_at};
+ghost use Rattle.plant.specs.Questions.{width_asked};
 ghost use Rattle.linefloor.proofs.Lawful.{lines_are_lawful};
 ghost use Rattle.lines.specs.Made.{meant};
 
 use crate::line_plant::LinePlant;
-use numerals::contains;
 use plant::{OffFloor, Plant};
+use setcodes::size;
+
+// The sum of these grades.
+fn sum_of(grades: &[u32]) -> u32
+    requires { sum grades.now < 2 ^ 32 }
+    ensures { result ≡ sum grades.now }
+{
+    grades.iter().sum()
+}
 
 impl LinePlant {
     // How many lanes lead from each station to the next.
@@ -20,16 +29,17 @@ impl LinePlant {
 
     // How many lanes a side has: none enter the first station, and none leave the last.
     #[tactic(auto, using(crate::proofs::Sides::width_first, crate::proofs::Sides::width_bare, crate::proofs::Sides::width_whole))]
-    fn lanes_on(&self, side: usize) -> usize
-        requires { side < 2 * self.now.stations }
-        ensures all { result ≡ side_width (meant self.now).floor side }
-        ensures few { result ≤ array_vec_len self.now.grades }
+    fn lanes_on(&self, side: usize) -> Result<usize, OffFloor>
+        ensures all { result ≡ width_asked (meant self.now).floor side }
+        ensures few { IfOk result (λ width. width ≤ array_vec_len self.now.grades) }
     {
-        if side == 1 || side == 2 * (self.stations - 1) {
-            0
-        } else {
-            self.between()
+        if side / 2 >= self.stations {
+            return Err(OffFloor);
         }
+        if side == 1 || side == 2 * (self.stations - 1) {
+            return Ok(0);
+        }
+        Ok(self.between())
     }
 
     // The lane at a position of a side: the lanes into a station are those out of the one before.
@@ -43,19 +53,12 @@ impl LinePlant {
     }
 
     // The sum of as many first grades as the set has members.
-    fn grades_cap(&self, width: usize, set: usize) -> u32
-        requires { width ≤ array_vec_len self.now.grades }
-        ensures { result ≡ graded (λ j. slice_index self.now.grades.items j) width set }
+    #[tactic(auto, using(crate::proofs::Grades::graded_is, crate::proofs::Grades::first_low, polymatroid::proofs::Grades::size_top))]
+    fn grades_cap(&self, set: usize) -> u32
+        requires { set < 2 ^ array_vec_len self.now.grades }
+        ensures { (k : ℕ) → set < 2 ^ k → result ≡ graded (λ j. slice_index self.now.grades.items j) k set }
     {
-        let mut sum = 0;
-        let mut members = 0;
-        for position in 0..width {
-            if contains(set, position) {
-                sum += self.grades[members];
-                members += 1;
-            }
-        }
-        sum
+        sum_of(&self.grades[..size(set)])
     }
 }
 
@@ -89,25 +92,22 @@ impl Plant for LinePlant {
     }
 
     fn width(&self, side: usize) -> Result<usize, OffFloor> {
-        if side / 2 >= self.stations {
-            return Err(OffFloor);
-        }
-        Ok(self.lanes_on(side))
+        self.lanes_on(side)
     }
 
     fn lane_at(&self, side: usize, position: usize) -> Result<usize, OffFloor> {
-        if position >= self.width(side)? {
+        let width = self.lanes_on(side)?;
+        if position >= width {
             return Err(OffFloor);
         }
         Ok(self.lane_on(side, position))
     }
 
-    #[tactic(auto, using(linefloor::proofs::Lawful::count_low))]
     fn cap(&self, side: usize, set: usize) -> Result<u32, OffFloor> {
-        let width = self.width(side)?;
+        let width = self.lanes_on(side)?;
         if set >= 1 << width {
             return Err(OffFloor);
         }
-        Ok(self.grades_cap(width, set))
+        Ok(self.grades_cap(set))
     }
 }

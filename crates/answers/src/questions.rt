@@ -8,9 +8,9 @@ ghost use Rattle.answers.specs.Answers.{Lists, owns, Owns, limit_cap, limit_seen
 
 use crate::file_plant::FilePlant;
 use limits::{Limit, cap_of};
-use numerals::contains;
 use plant::{MOST_ON_SIDE, OffFloor, Plant};
 use plantformat::Lane;
+use setcodes::contains;
 
 // The lanes of a side: their numbers by position, and how many there are.
 #[derive(Clone, Copy)]

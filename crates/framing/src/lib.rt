@@ -1,73 +1,61 @@
 // How a file is cut into records: a two-byte length that counts the whole record, a two-byte kind, then the body. `first_frame` takes
-// any bytes, and its answer is equal to the definition of the format. What a body holds is for the record layer.
+// any bytes, and its answer is that of the definition of the format, for any kinds that are listed by their numbers. What a body holds
+// is for the layer that reads the records.
 #![tactic(auto)]
 
 ghost use Rattle.std.specs.Prelude.{◌≡◌};
-ghost use Rattle.plantformat.specs.Judge.{framed, kind_of};
-ghost use Rattle.framing.specs.Frames.{cut_at, cut_shown, frame_shown};
+ghost use Rattle.framing.specs.Frames.{Framed, cut_at, cut_shown};
 
-use plantformat::{FramingFault, Kind};
+use plantformat::FramingFault;
 
-// A record whose kind is still a number.
+// A value that was read from the front of some bytes, and the bytes after it.
 #[derive(Clone, Copy)]
-pub struct Cut<'a> {
-    pub number: u16,
+pub struct Parsed<'a, T> {
+    pub value: T,
+    pub rest: &'a [u8],
+}
+
+// A record: its kind, its body, and the bytes after it.
+#[derive(Clone, Copy)]
+pub struct Frame<'a, K> {
+    pub kind: K,
     pub body: &'a [u8],
     pub rest: &'a [u8],
 }
 
-// A record of a known kind, its body, and the bytes after it.
-#[derive(Clone, Copy)]
-pub struct Frame<'a> {
-    pub kind: Kind,
-    pub body: &'a [u8],
-    pub rest: &'a [u8],
-}
-
-// The first record of `bytes`, which lies at the place `at` of the file.
-pub fn cut_record<'a>(bytes: &'a [u8], at: usize) -> Result<Cut<'a>, FramingFault>
+// The first record of `bytes`, which lies at the place `at` of the file, with its kind as a number.
+#[tactic(auto, using(crate::proofs::Cuts::cut_is))]
+pub fn cut_record<'a>(bytes: &'a [u8], at: usize) -> Result<Frame<'a, u16>, FramingFault>
     ensures { cut_shown result ≡ cut_at at bytes.now }
 {
+    let fault = FramingFault::Length { at };
     let [l0, l1, k0, k1, after @ ..] = bytes else {
-        return Err(FramingFault::Length { at });
+        return Err(fault);
     };
     let length = usize::from(u16::from_le_bytes([*l0, *l1]));
-    if length < 4 || length - 4 > after.len() {
-        return Err(FramingFault::Length { at });
-    }
-    let (body, rest) = after.split_at(length - 4);
-    Ok(Cut {
-        number: u16::from_le_bytes([*k0, *k1]),
+    let size = length.checked_sub(4).ok_or(fault)?;
+    let (body, rest) = after.split_at_checked(size).ok_or(fault)?;
+    Ok(Frame {
+        kind: u16::from_le_bytes([*k0, *k1]),
         body,
         rest,
     })
 }
 
-// The kind with a number, if it is listed.
-fn listed_kind(number: u16) -> Option<Kind>
-    ensures { result ≡ kind_of number }
-{
-    match number {
-        1 => Some(Kind::Head),
-        2 => Some(Kind::Lane),
-        3 => Some(Kind::Table),
-        4 => Some(Kind::Groups),
-        5 => Some(Kind::Grades),
-        _ => None,
-    }
-}
-
 // The first record of `bytes`, if it is whole and of a listed kind.
-pub fn first_frame<'a>(bytes: &'a [u8], at: usize) -> Result<Frame<'a>, FramingFault>
-    ensures { frame_shown result ≡ framed at bytes.now }
+pub fn first_frame<'a, K: TryFrom<u16>>(
+    bytes: &'a [u8],
+    at: usize,
+) -> Result<Frame<'a, K>, FramingFault>
+where
+    K::Error: Drop,
+    ensures { Framed K.try_from_gives at (cut_at at bytes.now) result }
 {
     let cut = cut_record(bytes, at)?;
-    match listed_kind(cut.number) {
-        Some(kind) => Ok(Frame {
-            kind,
-            body: cut.body,
-            rest: cut.rest,
-        }),
-        None => Err(FramingFault::Kind { at }),
-    }
+    let kind = K::try_from(cut.kind).map_err(|_| FramingFault::Kind { at })?;
+    Ok(Frame {
+        kind,
+        body: cut.body,
+        rest: cut.rest,
+    })
 }

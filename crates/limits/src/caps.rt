@@ -13,8 +13,8 @@ ghost use Rattle.limits.specs.Told.{told};
 
 use crate::Limit;
 use crate::numbers::{bound_of, group_of, nth_long, parent_of};
-use numerals::contains;
 use plantformat::MOST_GROUPS;
+use setcodes::contains;
 
 // The sum of as many first grades as the set has members.
 fn grades_cap(steps: &[u8], width: usize, set: usize) -> u32

@@ -10,9 +10,9 @@ ghost use Rattle.limits.specs.Told.{limit_read, allowed};
 
 use crate::Limit;
 use crate::numbers::{bound_of, group_of, nth_long, parent_of, with_position};
-use numerals::contains;
 use plant::TOP_CAP;
 use plantformat::{FloorFault, Law, LimitFault, MOST_GROUPS, RecordFault, TOP_LANE};
+use setcodes::contains;
 
 // Every four-byte number is at most `top`.
 fn longs_at_most(bytes: &[u8], top: u32) -> bool

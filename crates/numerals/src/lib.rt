@@ -1,9 +1,7 @@
-// Numbers as they are written: the two-byte and four-byte numbers of a plant file, lowest byte first, and a set of positions as the
-// number whose binary digits tell which positions are in it.
+// Numbers as they are written: the two-byte and four-byte numbers of a plant file, lowest byte first.
 #![tactic(auto)]
 
-ghost use Rattle.std.specs.Prelude.{◌≡◌, ◌+◌, ◌/◌, ◌%◌, ◌^◌, ◌≤◌, ◌<◌, length};
-ghost use Rattle.polymatroid.specs.Sets.{has};
+ghost use Rattle.std.specs.Prelude.{◌≡◌, ◌+◌, ◌≤◌, length};
 ghost use Rattle.plantformat.specs.Bytes.{word, long};
 
 // The two-byte number at a place.
@@ -20,20 +18,4 @@ pub fn long_at(bytes: &[u8], at: usize) -> u32
     ensures { result ≡ long bytes.now at }
 {
     u32::from_le_bytes([bytes[at], bytes[at + 1], bytes[at + 2], bytes[at + 3]])
-}
-
-// The binary digit of a set at a position.
-fn digit(set: usize, position: usize) -> usize
-    requires { position < 64 }
-    ensures { result ≡ set / 2 ^ position % 2 }
-{
-    (set >> position) % 2
-}
-
-// Position p is in the set.
-pub fn contains(set: usize, position: usize) -> bool
-    requires { position < 64 }
-    ensures { result ≡ has set position }
-{
-    digit(set, position) == 1
 }

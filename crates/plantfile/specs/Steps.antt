@@ -6,13 +6,10 @@ use Rattle.plantformat.specs.declared.FloorFault.{FloorFault}
 use Rattle.plantformat.specs.declared.FloorFault.TheVariants as flo
 use Rattle.plantformat.specs.Rules.{keeps}
 use Rattle.plantformat.specs.Judge.{onward, unless, headed, Part, Draft, draft, recorded, placed, lanes_may_come}
-use Rattle.records.specs.Parts.{record_part}
 use Rattle.limits.specs.Told.{told}
 use Rattle.limits.specs.declared.Limit.{Limit}
 use Rattle.plantfile.specs.declared.reading.Stop.{Stop}
 use Rattle.plantfile.specs.declared.reading.Stop.TheVariants.{Fault, Memory}
-use Rattle.records.specs.declared.bodies.First.{First}
-use Rattle.records.specs.declared.bodies.Next.{Next}
 use Rattle.records.specs.declared.bodies.Record as code
 use Rattle.records.specs.declared.bodies.Record.TheVariants as record_of
 
@@ -20,11 +17,6 @@ use Rattle.records.specs.declared.bodies.Record.TheVariants as record_of
 abbrev pub next_judged : Draft → ℕ → List ℕ → Result (Part × List ℕ) FloorFault
 next_judged d at bs =
     onward flo.Record (recorded (lanes_may_come d) d.head.stations at bs) (λ p. onward (λ e. e) (placed d at p.0) (λ _. Ok p))
-
--- what the reader answers of the next record, with its bytes as a list
-abbrev pub next_told : Result Next FloorFault → Result (Part × List ℕ) FloorFault
-next_told (Ok n) = Ok (record_part n.record, n.rest.now)
-next_told (Err e) = Err e
 
 -- what has been read, with one record more
 abbrev pub grown : Draft → code.Record → Draft
@@ -50,11 +42,6 @@ Added d r e (Err Memory) = e ≡ d
 -- the head of a file that is not too long, with the bytes after it
 abbrev pub opened : List ℕ → Result (Head × List ℕ) FloorFault
 opened bs = unless (nat_lt most_bytes (length bs)) (flo.TooMany 0) (onward flo.Record (headed bs) (λ p. Ok p))
-
--- what the reader answers of the head, with its bytes as a list
-abbrev pub opened_told : Result First FloorFault → Result (Head × List ℕ) FloorFault
-opened_told (Ok f) = Ok (f.head, f.rest.now)
-opened_told (Err e) = Err e
 
 -- a whole file was read into d as it was judged, unless memory was wanting
 abbrev pub Filled : Result Draft FloorFault → Draft → Result (Unit {0}) Stop → Type 0

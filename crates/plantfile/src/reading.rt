@@ -2,16 +2,19 @@
 ghost use Rattle.std.specs.Prelude.{◌≡◌, true, []};
 ghost use Rattle.plantformat.specs.Judge.{judge};
 ghost use Rattle.answers.specs.Content.{content};
-ghost use Rattle.plantfile.specs.Steps.{next_told, next_judged, grown, keeps_draft, KeptLimit, Added, opened, opened_told, Filled};
+ghost use Rattle.framing.specs.Frames.{shown};
+ghost use Rattle.records.specs.Parts.{record_part};
+ghost use Rattle.plantfile.specs.Steps.{next_judged, grown, keeps_draft, KeptLimit, Added, opened, Filled};
 ghost use Rattle.plantfile.specs.Promise.{empty_draft, stopped, Judged, Promised};
 ghost use Rattle.plantfile.specs.declared.reading.Stop.TheVariants.{Fault, Memory};
 
 use answers::FilePlant;
+use framing::Parsed;
 use limits::Limit;
 use placing::fits;
 use plant::Refusal;
 use plantformat::{FloorFault, Head, MOST_BYTES, tell};
-use records::{First, Next, Record, first_record, next_record};
+use records::{Record, Scope, first_record, next_record};
 use std::alloc::{AllocFailed, Global};
 
 // Why a file is not read to its end: a fault of the file, or want of memory.
@@ -50,11 +53,15 @@ fn next_fitting<'a>(
     plant: &FilePlant<'a>,
     bytes: &'a [u8],
     at: usize,
-) -> Result<Next<'a>, FloorFault>
-    ensures { next_told result ≡ next_judged (content plant.now) at bytes.now }
+) -> Result<Parsed<'a, Record<'a>>, FloorFault>
+    ensures { shown record_part result ≡ next_judged (content plant.now) at bytes.now }
 {
-    let next = next_record(bytes, plant.head.stations, plant.limits.is_empty(), at)?;
-    fits(plant, next.record, at)?;
+    let scope = Scope {
+        stations: plant.head.stations,
+        lanes_may_come: plant.limits.is_empty(),
+    };
+    let next = next_record(bytes, at, scope)?;
+    fits(plant, next.value, at)?;
     Ok(next)
 }
 
@@ -77,11 +84,11 @@ fn fill<'a>(plant: &mut FilePlant<'a>, file: &'a [u8]) -> Result<(), Stop>
     ensures { Filled (judge file.now) (content plant.new) result }
 {
     let first = open_file(file)?;
-    plant.head = first.head;
+    plant.head = first.value;
     let mut rest = first.rest;
     while !rest.is_empty() {
         let next = next_fitting(plant, rest, file.len() - rest.len())?;
-        add(plant, next.record)?;
+        add(plant, next.value)?;
         rest = next.rest;
     }
     Ok(())
@@ -104,8 +111,8 @@ fn empty<'a>(heap: Global) -> FilePlant<'a>
 }
 
 // The head of a file that is not too long.
-fn open_file<'a>(file: &'a [u8]) -> Result<First<'a>, FloorFault>
-    ensures { opened_told result ≡ opened file.now }
+fn open_file<'a>(file: &'a [u8]) -> Result<Parsed<'a, Head>, FloorFault>
+    ensures { shown (λ head. head) result ≡ opened file.now }
 {
     if file.len() > MOST_BYTES {
         return Err(FloorFault::TooMany { at: 0 });

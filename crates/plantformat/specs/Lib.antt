@@ -5,4 +5,5 @@ pub mod Rules
 pub mod Encoding
 pub mod Faults
 pub mod Judge
+pub mod Kinds
 pub mod Promise

@@ -5,6 +5,7 @@
 
 ghost use Rattle.std.specs.Prelude.{◌≡◌};
 ghost use Rattle.plantformat.specs.Faults.{told};
+ghost use Rattle.plantformat.specs.Kinds.{KindOf};
 ghost use Rattle.plantformat.specs.Promise.{AcceptedFilesEncode, EncodingsAreAccepted, AcceptedPlantsAreLawful};
 ghost use Rattle.plantformat.specs.declared.FloorFault.TheVariants.{Record, Limit};
 ghost use Rattle.plantformat.specs.declared.RecordFault.TheVariants.{Framing};
@@ -20,7 +21,7 @@ pub const TOP_LANE: u32 = 100_000;
 pub const MOST_GROUPS: usize = 16;
 
 // The kinds of record that a plant file may hold.
-#[derive(Clone, Copy)]
+#[derive(Clone, Copy, Debug, PartialEq, Eq)]
 pub enum Kind {
     Head,
     Lane,
@@ -29,8 +30,30 @@ pub enum Kind {
     Grades,
 }
 
+// A number that no kind of record has.
+#[derive(Clone, Copy, Debug, PartialEq, Eq)]
+pub struct UnlistedKind(pub u16);
+
+// The kind with a number, if it is listed.
+impl TryFrom<u16> for Kind {
+    type Error = UnlistedKind;
+
+    ghost try_from_gives = { KindOf };
+
+    fn try_from(number: u16) -> Result<Kind, UnlistedKind> {
+        match number {
+            1 => Ok(Kind::Head),
+            2 => Ok(Kind::Lane),
+            3 => Ok(Kind::Table),
+            4 => Ok(Kind::Groups),
+            5 => Ok(Kind::Grades),
+            _ => Err(UnlistedKind(number)),
+        }
+    }
+}
+
 // How many stations there are, and which of them are the stock and the despatch.
-#[derive(Clone, Copy)]
+#[derive(Clone, Copy, Debug, PartialEq, Eq)]
 pub struct Head {
     pub stations: usize,
     pub stock: usize,
@@ -38,7 +61,7 @@ pub struct Head {
 }
 
 // A lane: the station that it leaves, the one that it enters, and its own cap.
-#[derive(Clone, Copy)]
+#[derive(Clone, Copy, Debug, PartialEq, Eq)]
 pub struct Lane {
     pub from: usize,
     pub to: usize,
@@ -46,14 +69,14 @@ pub struct Lane {
 }
 
 // A fault in how a file is cut into records. Every fault has the place of its record, its first byte.
-#[derive(Clone, Copy)]
+#[derive(Clone, Copy, Debug, PartialEq, Eq)]
 pub enum FramingFault {
     Length { at: usize },
     Kind { at: usize },
 }
 
 // A fault in one record, or below it.
-#[derive(Clone, Copy)]
+#[derive(Clone, Copy, Debug, PartialEq, Eq)]
 pub enum RecordFault {
     Framing(FramingFault),
     Order { at: usize },
@@ -62,13 +85,13 @@ pub enum RecordFault {
 }
 
 // A fault in the caps that a limit gives.
-#[derive(Clone, Copy)]
+#[derive(Clone, Copy, Debug, PartialEq, Eq)]
 pub enum LimitFault {
     Breaks { at: usize, law: Law },
 }
 
 // A fault in the floor that the records make, or below it.
-#[derive(Clone, Copy)]
+#[derive(Clone, Copy, Debug, PartialEq, Eq)]
 pub enum FloorFault {
     Record(RecordFault),
     Limit(LimitFault),

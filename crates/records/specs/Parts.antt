@@ -1,6 +1,5 @@
 -- What the record layer hands on, as the definitions of the format see it.
 use Rattle.std.specs.Prelude.{ℕ, ◌*◌, not, List, length, Ok, Err, Result, nat_lt}
-use Rattle.plantformat.specs.declared.Head.{Head}
 use Rattle.plantformat.specs.declared.RecordFault.{RecordFault}
 use Rattle.plantformat.specs.declared.RecordFault.TheVariants as rec
 use Rattle.plantformat.specs.Bytes.{word}
@@ -9,8 +8,6 @@ use Rattle.limits.specs.declared.Limit.{Limit}
 use Rattle.limits.specs.declared.Limit.TheVariants.{Table, Groups, Grades}
 use Rattle.records.specs.declared.bodies.Record as code
 use Rattle.records.specs.declared.bodies.Record.TheVariants as record_of
-use Rattle.records.specs.declared.bodies.First.{First}
-use Rattle.records.specs.declared.bodies.Next.{Next}
 
 -- a limit of which the fixed part is read
 abbrev pub limit_part : Limit → Part
@@ -27,15 +24,7 @@ abbrev pub record_part : code.Record → Part
 record_part (record_of.Lane l) = a_lane l
 record_part (record_of.Limit l) = limit_part l
 
--- what is answered of a body, of the head and of the next record, with the bytes as lists
+-- what is answered of a body, with its bytes as lists
 abbrev pub record_shown : Result code.Record RecordFault → Result Part RecordFault
 record_shown (Ok r) = Ok (record_part r)
 record_shown (Err e) = Err e
-
-abbrev pub first_shown : Result First RecordFault → Result (Head × List ℕ) RecordFault
-first_shown (Ok f) = Ok (f.head, f.rest.now)
-first_shown (Err e) = Err e
-
-abbrev pub next_shown : Result Next RecordFault → Result (Part × List ℕ) RecordFault
-next_shown (Ok n) = Ok (record_part n.record, n.rest.now)
-next_shown (Err e) = Err e

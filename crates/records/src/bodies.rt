@@ -1,10 +1,13 @@
 // The records of a file one by one: their order, their sizes, and the ranges of their numbers.
-ghost use Rattle.std.specs.Prelude.{◌≡◌, ◌≤◌};
+ghost use Rattle.std.specs.Prelude.{◌≡◌, ◌≢◌, ◌+◌, ◌≤◌, length, MatchResult};
+ghost use Rattle.plantformat.specs.Bytes.{word, long};
 ghost use Rattle.plantformat.specs.Rules.{head_keeps, lane_ranged};
 ghost use Rattle.plantformat.specs.Judge.{head_read, lane_read, part_read, headed, recorded};
-ghost use Rattle.records.specs.Parts.{side_read, record_shown, first_shown, next_shown};
+ghost use Rattle.plantformat.specs.declared.RecordFault.TheVariants.{Size};
+ghost use Rattle.framing.specs.Frames.{shown};
+ghost use Rattle.records.specs.Parts.{side_read, record_part, record_shown};
 
-use framing::first_frame;
+use framing::{Parsed, first_frame};
 use limits::Limit;
 use numerals::{long_at, word_at};
 use plant::MOST_STATIONS;
@@ -17,164 +20,189 @@ pub enum Record<'a> {
     Limit(Limit<'a>),
 }
 
-// The head of a file, and the bytes after it.
-#[derive(Clone, Copy)]
-pub struct First<'a> {
-    pub head: Head,
-    pub rest: &'a [u8],
-}
-
-// A record after the head, and the bytes after that.
-#[derive(Clone, Copy)]
-pub struct Next<'a> {
-    pub record: Record<'a>,
-    pub rest: &'a [u8],
+// What a record after the head is judged against: how many stations there are, and whether lanes may come.
+#[derive(Clone, Copy, Debug, PartialEq, Eq)]
+pub struct Scope {
+    pub stations: usize,
+    pub lanes_may_come: bool,
 }
 
 // The numbers of a head are in their ranges.
+#[tactic(auto, unfolding(plantformat::specs::Rules::head_keeps))]
 fn head_in_range(head: Head) -> bool
     ensures { result ≡ head_keeps head }
 {
-    2 <= head.stations
-        && head.stations <= MOST_STATIONS
+    (2..=MOST_STATIONS).contains(&head.stations)
         && head.stock < head.stations
         && head.despatch < head.stations
         && head.stock != head.despatch
 }
 
-// The body of a head.
-fn read_head(body: &[u8], at: usize) -> Result<Head, RecordFault>
-    ensures { result ≡ head_read at body.now }
-{
-    if body.len() != 6 {
-        return Err(RecordFault::Size { at });
-    }
-    let head = Head {
-        stations: word_at(body, 0),
-        stock: word_at(body, 2),
-        despatch: word_at(body, 4),
-    };
-    if !head_in_range(head) {
-        return Err(RecordFault::Range { at });
-    }
-    Ok(head)
-}
-
 // The numbers of a lane are in their ranges.
+#[tactic(auto, unfolding(plantformat::specs::Rules::lane_ranged))]
 fn lane_in_range(lane: Lane, stations: usize) -> bool
     ensures { result ≡ lane_ranged stations lane }
 {
     lane.from < stations && lane.to < stations && lane.own <= TOP_LANE
 }
 
-// The body of a lane.
-fn read_lane(body: &[u8], stations: usize, at: usize) -> Result<Lane, RecordFault>
-    ensures { result ≡ lane_read stations at body.now }
-{
-    if body.len() != 8 {
-        return Err(RecordFault::Size { at });
-    }
-    let lane = Lane {
-        from: word_at(body, 0),
-        to: word_at(body, 2),
-        own: long_at(body, 4),
-    };
-    if !lane_in_range(lane, stations) {
-        return Err(RecordFault::Range { at });
-    }
-    Ok(lane)
-}
-
-// The side of a limit whose fixed part is so many bytes.
-fn read_side(body: &[u8], fixed: usize, stations: usize, at: usize) -> Result<usize, RecordFault>
-    requires { 2 ≤ fixed }
-    ensures { result ≡ side_read fixed stations at body.now }
-{
-    if body.len() < fixed {
-        return Err(RecordFault::Size { at });
-    }
-    let side = word_at(body, 0);
-    if side / 2 >= stations {
-        return Err(RecordFault::Range { at });
-    }
-    Ok(side)
-}
-
-// A body by its kind, on a floor of so many stations, where lanes may or may not come.
-fn read_body<'a>(
-    kind: Kind,
-    body: &'a [u8],
-    stations: usize,
-    lanes_may_come: bool,
+// The body of a record, and the place of the record in its file.
+#[derive(Clone, Copy)]
+struct Body<'a> {
+    bytes: &'a [u8],
     at: usize,
-) -> Result<Record<'a>, RecordFault>
-    ensures { record_shown result ≡ part_read kind lanes_may_come stations at body.now }
-{
-    match kind {
-        Kind::Head => Err(RecordFault::Order { at }),
-        Kind::Lane => {
-            if !lanes_may_come {
-                return Err(RecordFault::Order { at });
+}
+
+impl<'a> Body<'a> {
+    // The two-byte number at an offset.
+    fn word(self, offset: usize) -> usize
+        requires { offset + 2 ≤ length self.bytes.now }
+        ensures { result ≡ word self.entry.bytes.now offset }
+    {
+        word_at(self.bytes, offset)
+    }
+
+    // The four-byte number at an offset.
+    fn long(self, offset: usize) -> u32
+        requires { offset + 4 ≤ length self.bytes.now }
+        ensures { result ≡ long self.entry.bytes.now offset }
+    {
+        long_at(self.bytes, offset)
+    }
+
+    // A body of any other size is refused.
+    fn check_size(self, size: usize) -> Result<(), RecordFault>
+        ensures { MatchResult result (λ _. length self.entry.bytes.now ≡ size) (λ e. (length self.entry.bytes.now ≢ size) × (e ≡ Size self.entry.at)) }
+    {
+        if self.bytes.len() != size {
+            return Err(RecordFault::Size { at: self.at });
+        }
+        Ok(())
+    }
+
+    // The body of a head.
+    fn head(self) -> Result<Head, RecordFault>
+        ensures { result ≡ head_read self.entry.at self.entry.bytes.now }
+    {
+        self.check_size(6)?;
+        let head = Head {
+            stations: self.word(0),
+            stock: self.word(2),
+            despatch: self.word(4),
+        };
+        if !head_in_range(head) {
+            return Err(RecordFault::Range { at: self.at });
+        }
+        Ok(head)
+    }
+
+    // The body of a lane.
+    fn lane(self, stations: usize) -> Result<Lane, RecordFault>
+        ensures { result ≡ lane_read stations self.entry.at self.entry.bytes.now }
+    {
+        self.check_size(8)?;
+        let lane = Lane {
+            from: self.word(0),
+            to: self.word(2),
+            own: self.long(4),
+        };
+        if !lane_in_range(lane, stations) {
+            return Err(RecordFault::Range { at: self.at });
+        }
+        Ok(lane)
+    }
+
+    // The side of a limit whose fixed part is so many bytes.
+    fn side(self, fixed: usize, stations: usize) -> Result<usize, RecordFault>
+        requires { 2 ≤ fixed }
+        ensures { result ≡ side_read fixed stations self.entry.at self.entry.bytes.now }
+    {
+        if self.bytes.len() < fixed {
+            return Err(RecordFault::Size { at: self.at });
+        }
+        let side = self.word(0);
+        if side / 2 >= stations {
+            return Err(RecordFault::Range { at: self.at });
+        }
+        Ok(side)
+    }
+
+    // A body by its kind.
+    fn record(self, kind: Kind, scope: Scope) -> Result<Record<'a>, RecordFault>
+        ensures { record_shown result ≡ part_read kind scope.lanes_may_come scope.stations self.entry.at self.entry.bytes.now }
+    {
+        match kind {
+            Kind::Head => Err(RecordFault::Order { at: self.at }),
+            Kind::Lane => {
+                if !scope.lanes_may_come {
+                    return Err(RecordFault::Order { at: self.at });
+                }
+                Ok(Record::Lane(self.lane(scope.stations)?))
             }
-            let lane = read_lane(body, stations, at)?;
-            Ok(Record::Lane(lane))
-        }
-        Kind::Table => {
-            let side = read_side(body, 2, stations, at)?;
-            Ok(Record::Limit(Limit::Table {
-                side,
-                caps: &body[2..],
-            }))
-        }
-        Kind::Groups => {
-            let side = read_side(body, 4, stations, at)?;
-            Ok(Record::Limit(Limit::Groups {
-                side,
-                count: word_at(body, 2),
-                numbers: &body[4..],
-            }))
-        }
-        Kind::Grades => {
-            let side = read_side(body, 2, stations, at)?;
-            Ok(Record::Limit(Limit::Grades {
-                side,
-                steps: &body[2..],
-            }))
+            Kind::Table => {
+                let side = self.side(2, scope.stations)?;
+                Ok(Record::Limit(Limit::Table {
+                    side,
+                    caps: &self.bytes[2..],
+                }))
+            }
+            Kind::Groups => {
+                let side = self.side(4, scope.stations)?;
+                Ok(Record::Limit(Limit::Groups {
+                    side,
+                    count: self.word(2),
+                    numbers: &self.bytes[4..],
+                }))
+            }
+            Kind::Grades => {
+                let side = self.side(2, scope.stations)?;
+                Ok(Record::Limit(Limit::Grades {
+                    side,
+                    steps: &self.bytes[2..],
+                }))
+            }
         }
     }
 }
 
 // The first record of a file, which is its head.
-pub fn first_record<'a>(file: &'a [u8]) -> Result<First<'a>, RecordFault>
-    ensures { first_shown result ≡ headed file.now }
+#[tactic(auto, using(framing::proofs::Listed::framed_is))]
+pub fn first_record<'a>(file: &'a [u8]) -> Result<Parsed<'a, Head>, RecordFault>
+    ensures { shown (λ head. head) result ≡ headed file.now }
 {
     if file.is_empty() {
         return Err(RecordFault::Order { at: 0 });
     }
-    let frame = first_frame(file, 0)?;
-    let Kind::Head = frame.kind else {
+    let frame = first_frame::<Kind>(file, 0)?;
+    if frame.kind != Kind::Head {
         return Err(RecordFault::Order { at: 0 });
+    }
+    let body = Body {
+        bytes: frame.body,
+        at: 0,
     };
-    let head = read_head(frame.body, 0)?;
-    Ok(First {
-        head,
+    Ok(Parsed {
+        value: body.head()?,
         rest: frame.rest,
     })
 }
 
 // The first record of `bytes`, which follow the head and lie at the place `at` of the file.
+#[tactic(auto, using(framing::proofs::Listed::framed_is))]
 pub fn next_record<'a>(
     bytes: &'a [u8],
-    stations: usize,
-    lanes_may_come: bool,
     at: usize,
-) -> Result<Next<'a>, RecordFault>
-    ensures { next_shown result ≡ recorded lanes_may_come stations at bytes.now }
+    scope: Scope,
+) -> Result<Parsed<'a, Record<'a>>, RecordFault>
+    ensures { shown record_part result ≡ recorded scope.lanes_may_come scope.stations at bytes.now }
 {
-    let frame = first_frame(bytes, at)?;
-    let record = read_body(frame.kind, frame.body, stations, lanes_may_come, at)?;
-    Ok(Next {
-        record,
+    let frame = first_frame::<Kind>(bytes, at)?;
+    let body = Body {
+        bytes: frame.body,
+        at,
+    };
+    Ok(Parsed {
+        value: body.record(frame.kind, scope)?,
         rest: frame.rest,
     })
 }

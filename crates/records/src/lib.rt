@@ -5,4 +5,4 @@
 
 mod bodies;
 
-pub use bodies::{First, Next, Record, first_record, next_record};
+pub use bodies::{Record, Scope, first_record, next_record};

@@ -80,7 +80,7 @@ fn read_setting<'a>(bytes: &'a [u8], at: usize) -> Result<Next<'a>, Refusal>
     let Ok(cut) = cut_record(bytes, at) else {
         return Err(refused(Reason::Framing, at));
     };
-    let setting = read_body(cut.number, cut.body, at)?;
+    let setting = read_body(cut.kind, cut.body, at)?;
     Ok(Next {
         setting,
         rest: cut.rest,

@@ -8,8 +8,8 @@ use Rattle.plantfile.proofs.reading.fill.Goals as goal
 pub invariant_of-plant : goal.invariant_of-plant
 invariant_of-plant c =
     let first = c.in_ok-first.first in record {
-      kept = fresh_keeps first.head (vec_items c.args.plant.now.lanes) (vec_items c.args.plant.now.limits) c.requires.lanes c.requires.limits
-          (opened_keeps c.args.file.now first.head first.rest.now (sym c.in_ok-first.ensures)).0;
+      kept = fresh_keeps first.value (vec_items c.args.plant.now.lanes) (vec_items c.args.plant.now.limits) c.requires.lanes c.requires.limits
+          (opened_keeps c.args.file.now first.value first.rest.now (sym c.in_ok-first.ensures)).0;
     }
 
 pub loop-rest-init : goal.loop-rest-init
@@ -17,10 +17,10 @@ loop-rest-init c =
     let first = c.in_ok-first.first in
     let bs = c.args.file.now in
     let is = sym c.in_ok-first.ensures in (
-      judged_on bs first.head first.rest.now is
+      judged_on bs first.value first.rest.now is
           ∙ ap (λ (d : Draft). read_on (length first.rest.now) (length bs) d first.rest.now)
-          (fresh_draft first.head (vec_items c.args.plant.now.lanes) (vec_items c.args.plant.now.limits) c.requires.lanes c.requires.limits),
-      (opened_keeps bs first.head first.rest.now is).1,
+          (fresh_draft first.value (vec_items c.args.plant.now.lanes) (vec_items c.args.plant.now.limits) c.requires.lanes c.requires.limits),
+      (opened_keeps bs first.value first.rest.now is).1,
     )
 
 pub returns-in_err-next : goal.returns-in_err-next
@@ -39,7 +39,7 @@ add-requires c =
     let h = c.loop-rest-test.ensures in
     let next = c.in_ok-next.next in
     grown_keeps (length c.args.file.now) (content c.loop-rest.plant) bs (omega (arith, false-eqb (length bs) 0 h)) c.loop-rest.plant.kept
-    next.record next.rest.now (sym c.in_ok-next.ensures)
+    next.value next.rest.now (sym c.in_ok-next.ensures)
 
 -- the bytes that are left grow fewer
 fewer : (c : goal.After-rest-in-loop-rest-1) → length c.in_ok-next.next.rest.now < length c.loop-rest.rest.now
@@ -48,7 +48,7 @@ fewer c =
     let h = c.loop-rest-test.ensures in
     let next = c.in_ok-next.next in
     rest_less (length c.args.file.now) (content c.loop-rest.plant) bs (omega (arith, false-eqb (length bs) 0 h)) c.loop-rest.plant.kept
-    next.record next.rest.now (sym c.in_ok-next.ensures)
+    next.value next.rest.now (sym c.in_ok-next.ensures)
 
 pub loop-rest-smaller : goal.loop-rest-smaller
 loop-rest-smaller c = fewer c
@@ -60,7 +60,7 @@ loop-rest-preserved c =
     let next = c.in_ok-next.next in
     let total = length c.args.file.now in (
       c.loop-rest.invariant.0
-          ∙ read_more total (content c.loop-rest.plant) bs (omega (arith, false-eqb (length bs) 0 h)) c.loop-rest.plant.kept next.record
+          ∙ read_more total (content c.loop-rest.plant) bs (omega (arith, false-eqb (length bs) 0 h)) c.loop-rest.plant.kept next.value
           next.rest.now (sym c.in_ok-next.ensures)
           ∙ ap (λ (d : Draft). read_on (length next.rest.now) total d next.rest.now) (sym c.in_ok-add.ensures),
       omega (arith, fewer c, c.loop-rest.invariant.1),

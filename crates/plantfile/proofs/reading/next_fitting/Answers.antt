@@ -18,7 +18,7 @@ returns-in_err-next c =
 pub fits-requires : goal.fits-requires
 fits-requires c =
     recorded_ranged c.is_empty.result c.args.plant.now.head.stations c.args.at c.args.bytes.now
-    (record_part c.in_ok-next.next.record) c.in_ok-next.next.rest.now (sym c.in_ok-next.ensures)
+    (record_part c.in_ok-next.next.value) c.in_ok-next.next.rest.now (sym c.in_ok-next.ensures)
 
 pub returns-in_err-fits : goal.returns-in_err-fits
 returns-in_err-fits c =
@@ -29,7 +29,7 @@ returns-in_err-fits c =
     ap (λ b. recorded b f.head.stations c.args.at c.args.bytes.now) (sym (may_come f c.is_empty.result c.is_empty.ensures))
     ∙ sym c.in_ok-next.ensures in
     rw (p.1, p.2)
-    (sym (next_by (content f) c.args.at c.args.bytes.now (record_part n.record) n.rest.now read (Err c.in_err-fits.field-0.0)
+    (sym (next_by (content f) c.args.at c.args.bytes.now (record_part n.value) n.rest.now read (Err c.in_err-fits.field-0.0)
     c.in_err-fits.ensures))
 
 pub returns : goal.returns
@@ -39,4 +39,4 @@ returns c =
     let read =
     ap (λ b. recorded b f.head.stations c.args.at c.args.bytes.now) (sym (may_come f c.is_empty.result c.is_empty.ensures))
     ∙ sym c.in_ok-next.ensures in
-    sym (next_by (content f) c.args.at c.args.bytes.now (record_part n.record) n.rest.now read (Ok tt) c.in_ok-fits.ensures)
+    sym (next_by (content f) c.args.at c.args.bytes.now (record_part n.value) n.rest.now read (Ok tt) c.in_ok-fits.ensures)

@@ -1,8 +1,0 @@
-use mathlib.Core.Path.{ap}
-use lib.Dec.{eqb}
-use Rattle.polymatroid.specs.Sets.{has}
-use Rattle.numerals.proofs.contains.Goals as goal
-
-pub returns : goal.returns
-unfolding has
-returns c = ap (λ n. eqb n 1) c.digit.ensures

@@ -2,6 +2,7 @@
 use Rattle.std.proofs.Common.{◌≡◌, ℕ, ◌≤◌, Bool, true, false, cond, not, eqb, List, length, drop, Ok, Err, Result, refl, ap, ◌∙◌, subst, arith}
 use Rattle.std.proofs.lemmas.List.{length-drop, get_or-drop}
 use Rattle.std.proofs.lemmas.Bool.{eqb-true, eq-eqb}
+use Rattle.plant.specs.Refusals.{refused}
 use Rattle.plant.specs.declared.refusals.Refusal.{Refusal}
 use Rattle.plant.specs.declared.refusals.Reason.TheVariants as reason
 use Rattle.plantformat.specs.Bytes.{word, long}
@@ -9,7 +10,7 @@ use Rattle.plantformat.specs.Judge.{unless}
 use Rattle.plantformat.proofs.Verdicts.{ok_same, unless_not_ok, unless_not_passed}
 use Rattle.sheets.specs.declared.reading.Setting.{Setting}
 use Rattle.sheets.specs.declared.reading.Setting.TheVariants.{Close, Lower}
-use Rattle.sheets.specs.Sheet.{sheet_refusal, body_read}
+use Rattle.sheets.specs.Sheet.{body_read}
 use Rattle.sheets.specs.Promise.{SettingBytes}
 
 -- the number of a kind and a body say a setting
@@ -21,22 +22,22 @@ Says n b (Lower s c) = (n ≡ 21) × (length b ≡ 6) × (word b 0 ≡ s) × (lo
 
 module _ (at n : ℕ) (b : List ℕ) where
   lowers : Result Setting Refusal
-  lowers = unless (not (eqb (length b) 6)) (sheet_refusal reason.Size at) (Ok (Lower (word b 0) (long b 2)))
+  lowers = unless (not (eqb (length b) 6)) (refused reason.Size at) (Ok (Lower (word b 0) (long b 2)))
 
   closes : Result Setting Refusal
-  closes = unless (not (eqb (length b) 4)) (sheet_refusal reason.Size at) (Ok (Close (word b 0) (word b 2)))
+  closes = unless (not (eqb (length b) 4)) (refused reason.Size at) (Ok (Close (word b 0) (word b 2)))
 
   pub body_says : (t : Setting) → body_read at n b ≡ Ok t → Says n b t
   unfolding lowers closes
   body_says t e = by (eqb n 20) refl e
     where
-      next : (c : Bool) → eqb n 21 ≡ c → cond c lowers (Err (sheet_refusal reason.Kind at)) ≡ Ok t → Says n b t
+      next : (c : Bool) → eqb n 21 ≡ c → cond c lowers (Err (refused reason.Kind at)) ≡ Ok t → Says n b t
       next true q p =
           let a = unless_not_ok (eqb (length b) 6) _ _ p in
           subst (Says n b) (ok_same {E = Refusal} a.1) (eqb-true n 21 q, eqb-true (length b) 6 a.0, refl, refl)
       next false q p = let z : ◌≡◌ {A = ℕ} 0 1 = cc in absurd (omega arith)
 
-      by : (c : Bool) → eqb n 20 ≡ c → cond c closes (cond (eqb n 21) lowers (Err (sheet_refusal reason.Kind at))) ≡ Ok t → Says n b t
+      by : (c : Bool) → eqb n 20 ≡ c → cond c closes (cond (eqb n 21) lowers (Err (refused reason.Kind at))) ≡ Ok t → Says n b t
       by true q p =
           let a = unless_not_ok (eqb (length b) 4) _ _ p in
           subst (Says n b) (ok_same {E = Refusal} a.1) (eqb-true n 20 q, eqb-true (length b) 4 a.0, refl, refl)
@@ -44,10 +45,10 @@ module _ (at n : ℕ) (b : List ℕ) where
 
 pub body_said : (at n : ℕ) (b : List ℕ) (t : Setting) → Says n b t → body_read at n b ≡ Ok t
 body_said at n b (Close s p) (k, l, x, y) =
-    ap (λ m. body_read at m b) k ∙ unless_not_passed (eqb (length b) 4) (sheet_refusal reason.Size at) (Ok (Close (word b 0) (word b 2))) (eq-eqb (length b) 4 l)
+    ap (λ m. body_read at m b) k ∙ unless_not_passed (eqb (length b) 4) (refused reason.Size at) (Ok (Close (word b 0) (word b 2))) (eq-eqb (length b) 4 l)
     ∙ (λ i. Ok (Close (x i) (y i)))
 body_said at n b (Lower s c) (k, l, x, y) =
-    ap (λ m. body_read at m b) k ∙ unless_not_passed (eqb (length b) 6) (sheet_refusal reason.Size at) (Ok (Lower (word b 0) (long b 2))) (eq-eqb (length b) 6 l)
+    ap (λ m. body_read at m b) k ∙ unless_not_passed (eqb (length b) 6) (refused reason.Size at) (Ok (Lower (word b 0) (long b 2))) (eq-eqb (length b) 6 l)
     ∙ (λ i. Ok (Lower (x i) (y i)))
 
 -- ---- a whole record: four bytes of framing, and the body

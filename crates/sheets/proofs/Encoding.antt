@@ -4,6 +4,7 @@ use Rattle.std.specs.List.{AllByRecursion}
 use Rattle.std.proofs.lemmas.Bool.Decides.{nat_tests}
 use Rattle.std.proofs.lemmas.List.{length-take, length-drop, length-append, get_or-take, get_or_append_left, take-append-drop, drop-take, drop-append-le, take_at, drop_at, nil_from_length}
 use Rattle.std.proofs.lemmas.Bool.{eqb-true, lt-ltb, le-leb, ltb-false, le-ltb, or_parts, or_from}
+use Rattle.plant.specs.Refusals.{refused}
 use Rattle.plant.specs.declared.refusals.Refusal.{Refusal}
 use Rattle.plant.specs.declared.refusals.Reason.TheVariants as reason
 use Rattle.floor.specs.Numbers.{top_cap}
@@ -12,7 +13,7 @@ use Rattle.plantformat.specs.Bytes.{word}
 use Rattle.plantformat.specs.Encoding.{Row}
 use Rattle.plantformat.specs.Judge.{onward, cut_short}
 use Rattle.plantformat.proofs.Verdicts.{ok_same, onward_ok, unless_ok, unless_passed}
-use Rattle.piles.specs.Settings.{can_close, pile_refusal}
+use Rattle.piles.specs.Settings.{can_close}
 use Rattle.sheets.specs.declared.reading.Setting.{Setting}
 use Rattle.sheets.specs.declared.reading.Setting.TheVariants.{Close, Lower}
 use Rattle.sheets.specs.Sheet.{most_sheet_bytes, body_read, placed_at, setting_judged, setting_read, next_judged, before, sheet_read}
@@ -34,10 +35,10 @@ two_tests at false b x y e = let z : ◌≡◌ {A = ℕ} 0 1 = cc in absurd (ome
 module _ (F : Floor) (at : ℕ) where
   judged_allowed : (t : Setting) {u : Unit {0}} → setting_judged F at t ≡ Ok u → Allowed F t
   judged_allowed (Close s p) e =
-      let a = one_test at (can_close F s p) (pile_refusal reason.OffFloor) e in
+      let a = one_test at (can_close F s p) (refused reason.OffFloor 0) e in
       (grind (arith, nat_tests), grind (arith, nat_tests))
   judged_allowed (Lower s c) e =
-      let a = two_tests at (ltb s (sides F)) (leb c top_cap) (pile_refusal reason.Ceiling) (pile_refusal reason.OffFloor) e in
+      let a = two_tests at (ltb s (sides F)) (leb c top_cap) (refused reason.Ceiling 0) (refused reason.OffFloor 0) e in
       let b = a.0 in
       let d = a.1 in
       (grind (arith, nat_tests), grind (arith, nat_tests))
@@ -45,11 +46,11 @@ module _ (F : Floor) (at : ℕ) where
   allowed_judged : (t : Setting) → Allowed F t → setting_judged F at t ≡ Ok tt
   allowed_judged (Close s p) (a, b) =
       let on : can_close F s p ≡ true = grind (arith, nat_tests) in
-      ap (λ c. placed_at at (cond c (Ok tt) (Err (pile_refusal reason.OffFloor)))) on
+      ap (λ c. placed_at at (cond c (Ok tt) (Err (refused reason.OffFloor 0)))) on
   allowed_judged (Lower s c) (a, b) =
-      ap (λ x. placed_at at (cond x (cond (leb c top_cap) (Ok tt) (Err (pile_refusal reason.Ceiling))) (Err (pile_refusal reason.OffFloor))))
+      ap (λ x. placed_at at (cond x (cond (leb c top_cap) (Ok tt) (Err (refused reason.Ceiling 0))) (Err (refused reason.OffFloor 0))))
       (lt-ltb s (sides F) a)
-      ∙ ap (λ x. placed_at at (cond x (Ok tt) (Err (pile_refusal reason.Ceiling)))) (le-leb c top_cap b)
+      ∙ ap (λ x. placed_at at (cond x (Ok tt) (Err (refused reason.Ceiling 0)))) (le-leb c top_cap b)
 
 -- ---- one record at the front of the bytes
 

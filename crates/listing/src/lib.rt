@@ -29,7 +29,6 @@ pub fn show_refusal(heap: Global, source: &str, refusal: Refusal) -> Result<Stri
 }
 
 // The line of the floor.
-#[tactic(auto, using(crate::proofs::Each::by_parts), unfolding(crate::specs::Lines::floor_line))]
 fn add_floor<P: Plant>(text: &mut String, plant: &P) -> Result<(), AllocError>
     ensures { Adds (floor_line (P.meaning plant.now).floor) (string_bytes text.old) (string_bytes text.new) result }
 {

@@ -5,7 +5,7 @@
 
 ghost use Rattle.std.specs.Prelude.{◌≡◌, ◌<◌, IfOk, string_bytes};
 ghost use Rattle.floor.specs.Floor.{sides};
-ghost use Rattle.listing.specs.Lines.{Adds, floor_line, lane_line, lane_lines, side_shown, side_lines, plant_lines, refusal_line};
+ghost use Rattle.listing.specs.Lines.{Adds, floor_line, lane_lines, side_shown, side_lines, plant_lines, refusal_line};
 
 use plant::{Plant, Refusal};
 use std::alloc::{AllocError, Global};

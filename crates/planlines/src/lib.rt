@@ -11,7 +11,8 @@ use std::alloc::{AllocError, Global};
 use std::io::{self, Write};
 
 // What is told of a plan: the trays that leave the stock, the moves made, the trays on each lane, and the cut's byte for each lane
-// (`U`, `L`, or `-` for a lane outside the cut) and for each station (1 for a near one).
+// (`U`, `L`, or `-` for a lane outside the cut) and for each station (1 for a near one). Trays and bytes are in slices of their own,
+// since a plan's readings write them into buffers of their own.
 #[derive(Clone, Copy)]
 pub struct Told<'a> {
     pub total: u64,
@@ -21,7 +22,7 @@ pub struct Told<'a> {
     pub stations: &'a [u8],
 }
 
-// A plan's totals, lanes and stations. The listing is bytes and no text, since the byte of a lane stands in it as it is.
+// A plan's totals, lanes and stations. The listing is bytes and no text, since a lane's byte is printed as it is, whichever it is.
 pub fn show_plan(heap: Global, told: &Told) -> Result<Vec<u8>, AllocError>
     ensures { IfOk result (λ v. v.items ≡ plan_lines told.now.total told.now.moves told.now.trays.now told.now.lanes.now told.now.stations.now) }
 {

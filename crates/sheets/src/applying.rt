@@ -22,15 +22,17 @@ impl Covers {
         ensures judged { result ≡ setting_judged (P.meaning plant.now).floor at setting }
         ensures made { settings self.new.closings.closed self.new.ceilings.ceilings ≡ setting_made (P.meaning plant.now).floor setting (settings self.old.closings.closed self.old.ceilings.ceilings) }
     {
-        let verdict = match setting {
+        match setting {
             Setting::Close { side, position } => self.closings.close(plant, side, position),
             Setting::Lower { side, ceiling } => self.ceilings.set(plant, side, ceiling),
-        };
-        verdict.map_err(|refusal| Refusal::new(refusal.reason, at))
+        }
+        .map_err(|refusal| Refusal {
+            place: at,
+            ..refusal
+        })
     }
 
     // Sets what every record of a sheet says over the plant, up to one that is refused.
-    #[tactic(auto, using(crate::proofs::Walks::walk_starts, crate::proofs::Walks::walk_ends, crate::proofs::Walks::walk_unread, crate::proofs::Walks::walk_refused, crate::proofs::Walks::walk_on))]
     fn set_all<P: Plant>(&mut self, plant: &P, sheet: &[u8]) -> Result<(), Refusal>
         ensures { Reads (made_of (P.meaning plant.now).floor (sheet_read (length sheet.now) (length sheet.now) (P.meaning plant.now).floor sheet.now) (settings self.old.closings.closed self.old.ceilings.ceilings)) (settings self.new.closings.closed self.new.ceilings.ceilings) result }
     {

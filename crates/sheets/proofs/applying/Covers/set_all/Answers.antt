@@ -28,7 +28,7 @@ loop-rest-preserved g c =
     let V = made_of F (sheet_read n n F c.args.sheet.now) (settings c.args.self.now.closings.closed c.args.self.now.ceilings.ceilings) in (
       omega (arith, c.loop-rest.invariant.0, rest_less _ bs _ _ c.in_ok-first.ensures),
       subst (Walk F n V c.in_ok-first.first.rest.now) (sym c.set.ensures.made)
-      (walk_on F n V bs _ c.loop-rest.invariant.1 _ _ more c.in_ok-first.ensures c.in_ok-set.ensures.judged),
+          (walk_on F n V bs _ c.loop-rest.invariant.1 _ _ more c.in_ok-first.ensures c.in_ok-set.ensures.judged),
     )
 
 pub returns : goal.returns

@@ -1,5 +1,6 @@
 -- What a limit that keeps the rules says of its bytes, and that it gives the empty set cap 0.
 use Rattle.std.proofs.Common.{◌≡◌, ℕ, zero, suc, ◌^◌, ◌<◌, ◌≤◌, true, List, length, get_or, Some, sym, refl, ap, ◌∙◌, arith}
+use denote.Ref.{Bor}
 use Rattle.std.proofs.lemmas.Bool.{eqb-true, leb-true}
 use Rattle.polymatroid.specs.Side.{load}
 use Rattle.polymatroid.specs.Tables.{broken}
@@ -19,7 +20,7 @@ use Rattle.limits.specs.Checks.{GroupsOf}
 use Rattle.limits.proofs.Checked.{length_parents, length_members, parents_keep_at}
 
 -- a set that is not empty has a position
-pub some_position : (k X : ℕ) → X < 2 ^ k → (X ≡ 0 → ⊥) → 1 ≤ k
+some_position : (k X : ℕ) → X < 2 ^ k → (X ≡ 0 → ⊥) → 1 ≤ k
 some_position zero X l ne = absurd (ne (omega arith))
 some_position (suc k) X l ne = omega arith
 
@@ -72,7 +73,7 @@ module _ (k s g : ℕ) (b : List ℕ)
   pub all_grouped : positions g b ≡ k
   all_grouped = sym (length_members b (positions g b) g) ∙ all_positions k s _ _ _ e
 
-  pub groups_kept : 1 ≤ k → k ≤ 8 → GroupsOf g k b
+  groups_kept : 1 ≤ k → k ≤ 8 → GroupsOf g k b
   groups_kept pos narrow =
       let n = length_parents b g in
       let all = all_grouped in
@@ -89,6 +90,12 @@ module _ (k s g : ℕ) (b : List ℕ)
             ap (λ n. all_below n (members_at k g b)) (sym n) ∙ ap (λ k'. all_below (length (parents_at g b)) (members_at k' g b)) (sym all)
             ∙ members_kept k s _ _ _ e;
       }
+
+-- the same of a limit that holds groups, where there is a set that is not empty
+pub groups_held : (k X : ℕ) (l : Limit) {s g : ℕ} {numbers : Bor (List ℕ)} → l ≡ Groups s g numbers → limit_keeps k (told l) ≡ true
+    → X < 2 ^ k → (X ≡ 0 → ⊥) → k ≤ 8 → GroupsOf g k numbers.now
+groups_held k X l {s} {g} {numbers} is keeps on some narrow =
+    groups_kept k s g numbers.now (ap (λ l. limit_keeps k (told l)) (sym is) ∙ keeps) (some_position k X on some) narrow
 
 -- ---- the empty set
 

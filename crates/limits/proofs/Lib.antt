@@ -1,3 +1,5 @@
+pub mod Ranges
+pub mod FirstGrades
 pub mod Checked
 pub mod LimitCaps
 pub mod KeptLimits

@@ -13,7 +13,10 @@ ghost use Rattle.limits.specs.Told.{told};
 
 mod caps;
 mod checks;
+mod grades;
+mod groups;
 mod numbers;
+mod tables;
 
 pub use caps::cap_of;
 pub use checks::check_limit;
@@ -43,9 +46,8 @@ impl Limit<'_> {
         ensures { result ≡ side_of (told self.entry) }
     {
         match self {
-            Limit::Table { side, .. } => side,
-            Limit::Groups { side, .. } => side,
-            Limit::Grades { side, .. } => side,
+            Limit::Table { side, .. } | Limit::Groups { side, .. } | Limit::Grades { side, .. } =>
+                side,
         }
     }
 }

@@ -5,7 +5,7 @@ use Rattle.plantformat.specs.Rules.{limit_keeps}
 use Rattle.plantformat.specs.Judge.{parents_at, bounds_at, members_at}
 use Rattle.limits.specs.Told.{told}
 use Rattle.limits.proofs.Checked.{length_longs}
-use Rattle.limits.proofs.KeptLimits.{some_position, table_kept, groups_kept, all_grouped, grades_kept, none_is_0}
+use Rattle.limits.proofs.KeptLimits.{table_kept, groups_held, all_grouped, grades_kept, none_is_0}
 use Rattle.limits.proofs.caps.cap_of.Goals as goal
 
 pub returns-then-set-eq0 : goal.returns-then-set-eq0
@@ -21,22 +21,25 @@ nth_long-requires c =
     let keeps = ap (λ l. limit_keeps k (told l)) (sym c.in-Table.is) ∙ c.requires.keeps in
     omega (arith, (table_kept k c.in-Table.side b keeps).0, length_longs b)
 
-pub groups_cap-requires : goal.groups_cap-requires
-groups_cap-requires c =
-    let k = length c.args.own.now in
-    let keeps = ap (λ l. limit_keeps k (told l)) (sym c.in-Groups.is) ∙ c.requires.keeps in
-    let some = some_position k c.args.set c.requires.on c.if-set-eq0.false in
-    record {
-      groups = groups_kept k c.in-Groups.side c.in-Groups.count c.in-Groups.numbers.now keeps some c.requires.narrow;
-      low = c.requires.low;
-    }
+pub invariant_of-cap : goal.invariant_of-cap
+invariant_of-cap c = record {
+  whole = (groups_held _ c.args.set c.args.limit c.in-Groups.is c.requires.keeps c.requires.on c.if-set-eq0.false c.requires.narrow).whole;
+}
 
-pub grades_cap-requires : goal.grades_cap-requires
-grades_cap-requires c =
+pub cap-requires-clause-groups : goal.cap-requires-clause-groups
+cap-requires-clause-groups c = groups_held _ c.args.set c.args.limit c.in-Groups.is c.requires.keeps c.requires.on c.if-set-eq0.false c.requires.narrow
+
+pub grades_cap-requires-clause-whole : goal.grades_cap-requires-clause-whole
+grades_cap-requires-clause-whole c =
     let k = length c.args.own.now in
     let keeps = ap (λ l. limit_keeps k (told l)) (sym c.in-Grades.is) ∙ c.requires.keeps in
-    let kept = grades_kept k c.in-Grades.side c.in-Grades.steps.now keeps in
-    record { narrow = c.requires.narrow; whole = kept.0; low = kept.1 }
+    (grades_kept k c.in-Grades.side c.in-Grades.steps.now keeps).0
+
+pub grades_cap-requires-clause-low : goal.grades_cap-requires-clause-low
+grades_cap-requires-clause-low c =
+    let k = length c.args.own.now in
+    let keeps = ap (λ l. limit_keeps k (told l)) (sym c.in-Grades.is) ∙ c.requires.keeps in
+    (grades_kept k c.in-Grades.side c.in-Grades.steps.now keeps).1
 
 pub returns-in-Groups : goal.returns-in-Groups
 returns-in-Groups c =

@@ -3,20 +3,14 @@ use Rattle.std.proofs.Common.{◌≡◌, ℕ, zero, suc, ◌-◌, ◌*◌, ◌�
 use Rattle.std.specs.List.{list_all, IsAllAdjacentAnswer}
 use Rattle.std.proofs.lemmas.Bool.Decides.{nat_tests}
 use Rattle.std.proofs.lemmas.List.Sums.{sum_by_more}
-use Rattle.polymatroid.specs.Kinds.{firsts, size, graded}
 use Rattle.polymatroid.specs.Tables.{every}
 use Rattle.polymatroid.proofs.Tables.{every_from}
 use Rattle.plantformat.specs.Numbers.{top_lane}
 use Rattle.limits.proofs.Checked.{every_fails}
+use Rattle.limits.proofs.Ranges.{every_front}
 use Rattle.linefloor.specs.Line.{grades_low, grades_fall}
 use Rattle.linefloor.proofs.Lawful.{low_at}
 use Rattle.lines.specs.Made.{grade_of}
-
--- the first number below n apart
-every_front : (n : ℕ) (t : ℕ → Bool) → every (suc n) t ≡ (t 0 && every n (λ i. t (suc i)))
-unfolding every
-every_front zero t = grind arith
-every_front (suc n) t = let ih = every_front n t in grind arith
 
 -- every place of a list passes where every element does
 every_place : (t : ℕ → Bool) (xs : List ℕ) → every (length xs) (λ j. t (get_or xs j 0)) ≡ list_all t xs
@@ -35,20 +29,7 @@ falls_by gs true h =
 falls_by gs false (k, l, h) =
     let a = h 0 in sym (every_fails (length gs - 1) (λ i. leb (get_or gs (suc i) 0) (get_or gs i 0)) k (omega arith) (grind (arith, nat_tests)))
 
--- ---- the sum of the first grades
-
-first_grades : (gs : List ℕ) (n : ℕ) → n ≤ length gs → sum (take n gs) ≡ firsts (grade_of gs) n
-unfolding firsts
-first_grades gs zero l = refl
-first_grades gs (suc n) l =
-    let ih = first_grades gs n (omega arith) in
-    let more = sum_by_more (λ x. x) gs n 0 (omega arith) in
-    grind arith
-
-pub graded_is : (gs : List ℕ) (k X : ℕ) → size k X ≤ length gs → sum (take (size k X) gs) ≡ graded (grade_of gs) k X
-unfolding graded
-graded_is gs k X l = first_grades gs (size k X) l
-
+-- the sum of the first grades is low
 pub first_low : (gs : List ℕ) (n : ℕ) → grades_low (length gs) (grade_of gs) ≡ true → n ≤ length gs → sum (take n gs) ≤ n * top_lane
 first_low gs zero low l = omega arith
 first_low gs (suc n) low l =

@@ -27,7 +27,7 @@ impl LinePlant {
         self.grades.len()
     }
 
-    // How many lanes a side has: none enter the first station, and none leave the last.
+    // How many lanes a side has, if it is on the floor: none enter the first station, and none leave the last.
     #[tactic(auto, using(crate::proofs::Sides::width_first, crate::proofs::Sides::width_bare, crate::proofs::Sides::width_whole))]
     fn lanes_on(&self, side: usize) -> Result<usize, OffFloor>
         ensures all { result ≡ width_asked (meant self.now).floor side }
@@ -53,10 +53,10 @@ impl LinePlant {
     }
 
     // The sum of as many first grades as the set has members.
-    #[tactic(auto, using(crate::proofs::Grades::graded_is, crate::proofs::Grades::first_low, polymatroid::proofs::Grades::size_top))]
+    #[tactic(auto, using(limits::proofs::FirstGrades::graded_is, crate::proofs::Grades::first_low, polymatroid::proofs::Grades::size_top))]
     fn grades_cap(&self, set: usize) -> u32
         requires { set < 2 ^ array_vec_len self.now.grades }
-        ensures { (k : ℕ) → set < 2 ^ k → result ≡ graded (λ j. slice_index self.now.grades.items j) k set }
+        ensures { (k : ℕ) → k ≤ array_vec_len self.now.grades → set < 2 ^ k → result ≡ graded (λ j. slice_index self.now.grades.items j) k set }
     {
         sum_of(&self.grades[..size(set)])
     }

@@ -8,6 +8,7 @@ use Rattle.plantformat.specs.declared.UnlistedKind.{UnlistedKind}
 use Rattle.plantformat.specs.Bytes.{word, long}
 use Rattle.plantformat.specs.Judge.{onward, unless, cut_short}
 use Rattle.piles.specs.Settings.{close_judged, ceiling_judged, closed_after, ceilings_after}
+use Rattle.sheets.specs.declared.applying.Covers.{Covers}
 use Rattle.sheets.specs.declared.reading.Setting.{Setting}
 use Rattle.sheets.specs.declared.reading.Setting.TheVariants.{Close, Lower}
 use Rattle.sheets.specs.declared.reading.SettingKind.{SettingKind}
@@ -83,6 +84,10 @@ pub record Settings : Type 0 where
 -- these closed positions and these ceilings
 abbrev pub settings : List ℕ → List ℕ → Settings
 settings closed ceilings = record { closed = closed; ceilings = ceilings }
+
+-- what the covers of a pile are set to
+abbrev pub settings_of : Covers → Settings
+settings_of c = settings c.closings.closed c.ceilings.ceilings
 
 -- one setting more
 abbrev pub setting_made : Floor → Setting → Settings → Settings

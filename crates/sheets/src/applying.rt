@@ -1,6 +1,6 @@
 // Setting a pile to what a sheet says.
 ghost use Rattle.std.specs.Prelude.{◌≡◌, length};
-ghost use Rattle.sheets.specs.Sheet.{setting_judged, setting_made, settings, sheet_read, sheet_judged, made_of, Reads, Applied};
+ghost use Rattle.sheets.specs.Sheet.{setting_judged, setting_made, settings, settings_of, sheet_read, sheet_judged, made_of, Reads, Applied};
 
 use crate::reading::{Setting, first_setting};
 use piles::{Ceiling, Ceilings, Closing, Closings};
@@ -20,7 +20,7 @@ impl Covers {
     // Sets what the record at a place says over the plant. A refusal by the pile gets the place of the record.
     fn set<P: Plant>(&mut self, plant: &P, setting: Setting, at: usize) -> Result<(), Refusal>
         ensures judged { result ≡ setting_judged (P.meaning plant.now).floor at setting }
-        ensures made { settings self.new.closings.closed self.new.ceilings.ceilings ≡ setting_made (P.meaning plant.now).floor setting (settings self.old.closings.closed self.old.ceilings.ceilings) }
+        ensures made { settings_of self.new ≡ setting_made (P.meaning plant.now).floor setting (settings_of self.old) }
     {
         match setting {
             Setting::Close { side, position } => self.closings.close(plant, side, position),
@@ -34,7 +34,7 @@ impl Covers {
 
     // Sets what every record of a sheet says over the plant, up to one that is refused.
     fn set_all<P: Plant>(&mut self, plant: &P, sheet: &[u8]) -> Result<(), Refusal>
-        ensures { Reads (made_of (P.meaning plant.now).floor (sheet_read (length sheet.now) (length sheet.now) (P.meaning plant.now).floor sheet.now) (settings self.old.closings.closed self.old.ceilings.ceilings)) (settings self.new.closings.closed self.new.ceilings.ceilings) result }
+        ensures { Reads (made_of (P.meaning plant.now).floor (sheet_read (length sheet.now) (length sheet.now) (P.meaning plant.now).floor sheet.now) (settings_of self.old)) (settings_of self.new) result }
     {
         let mut rest = sheet;
         while !rest.is_empty() {

@@ -1,6 +1,6 @@
 use Rattle.std.proofs.Common.{◌<◌, length, sym, subst, arith, true-eqb, false-eqb}
 use Rattle.std.proofs.lemmas.Result.{err_from_is_err_and}
-use Rattle.sheets.specs.Sheet.{settings, sheet_read, made_of}
+use Rattle.sheets.specs.Sheet.{settings_of, sheet_read, made_of}
 use Rattle.sheets.proofs.Walks.{Walk, rest_less, walk_starts, walk_ends, walk_unread, walk_refused, walk_on}
 use Rattle.sheets.proofs.applying.Covers.set_all.Goals as goal
 
@@ -25,7 +25,7 @@ loop-rest-preserved g c =
     let bs = c.loop-rest.rest.now in
     let n = length c.args.sheet.now in
     let more : 0 < length bs = omega (arith, false-eqb (length bs) 0 c.loop-rest-test.ensures) in
-    let V = made_of F (sheet_read n n F c.args.sheet.now) (settings c.args.self.now.closings.closed c.args.self.now.ceilings.ceilings) in (
+    let V = made_of F (sheet_read n n F c.args.sheet.now) (settings_of c.args.self.now) in (
       omega (arith, c.loop-rest.invariant.0, rest_less _ bs _ _ c.in_ok-first.ensures),
       subst (Walk F n V c.in_ok-first.first.rest.now) (sym c.set.ensures.made)
           (walk_on F n V bs _ c.loop-rest.invariant.1 _ _ more c.in_ok-first.ensures c.in_ok-set.ensures.judged),

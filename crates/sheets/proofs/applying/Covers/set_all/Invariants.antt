@@ -1,5 +1,5 @@
 use Rattle.std.proofs.Common.{◌≤◌, length}
-use Rattle.sheets.specs.Sheet.{sheet_read, settings, made_of}
+use Rattle.sheets.specs.Sheet.{sheet_read, settings_of, made_of}
 use Rattle.sheets.proofs.Walks.{Walk}
 use Rattle.sheets.proofs.applying.Covers.set_all.Given as goal
 
@@ -9,8 +9,8 @@ invariant-loop-rest g l =
     let F = (g.P.Plant.meaning l.plant).floor in
     let n = length l.sheet in
     (length l.rest ≤ n)
-    × Walk F n (made_of F (sheet_read n n F l.sheet) (settings l.initial.self.closings.closed l.initial.self.ceilings.ceilings)) l.rest
-    (settings l.self.closings.closed l.self.ceilings.ceilings)
+    × Walk F n (made_of F (sheet_read n n F l.sheet) (settings_of l.initial.self)) l.rest
+    (settings_of l.self)
 
 abbrev pub decreases-loop-rest : goal.decreases-loop-rest
 decreases-loop-rest g l = length l.rest

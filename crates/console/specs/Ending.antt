@@ -1,5 +1,5 @@
 -- How a program ends.
-use Rattle.std.specs.Prelude.{◌≡◌, ℕ, List, Some, None, Option, Ok, Err, Result, string_bytes, codes}
+use Rattle.std.specs.Prelude.{◌≡◌, ℕ, List, Some, None, Option, Ok, Err, Result, IfErr, ◌⊎◌, string_bytes, codes}
 use Rattle.console.specs.declared.Failure.{Failure}
 use Rattle.console.specs.declared.Failure.TheVariants.{Refused, NoMemory, Io, Sheet}
 
@@ -19,3 +19,17 @@ status_told (Err _) = 1
 abbrev pub FailureStays : {Lines : Type 0} → Result Lines Failure → Result (Unit {0}) Failure → Type 0
 FailureStays (Ok _) r = Unit {0}
 FailureStays (Err _) r = status_told r ≡ 1
+
+-- a read or a write failed
+abbrev pub IsIo : Failure → Type 0
+IsIo (Refused _) = ⊥
+IsIo NoMemory = ⊥
+IsIo (Io _) = Unit {0}
+IsIo (Sheet _) = ⊥
+
+-- what comes of an answer that is printed: lines are done with, a refusal stays that refusal, unless the write failed; any other failure
+-- is passed on as it is
+abbrev pub Printed : {Lines : Type 0} → Result Lines Failure → Result (Unit {0}) Failure → Type 0
+Printed (Ok _) r = IfErr r IsIo
+Printed (Err (Refused line)) r = IfErr r (λ failure. (failure ≡ Refused line) ⊎ IsIo failure)
+Printed (Err failure) r = r ≡ Err failure

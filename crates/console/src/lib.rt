@@ -4,7 +4,7 @@
 
 ghost use Rattle.std.specs.Prelude.{◌≡◌};
 ghost use Rattle.std.specs.Process.{exit_status};
-ghost use Rattle.console.specs.Ending.{failure_words, status_told, FailureStays};
+ghost use Rattle.console.specs.Ending.{failure_words, status_told, FailureStays, Printed};
 ghost use Rattle.console.specs.declared.Failure.TheVariants.{NoMemory, Io};
 
 use std::alloc::AllocError;
@@ -73,7 +73,8 @@ pub fn print_answer<Lines: AsSlice<u8> + Drop>(
     rt: &HostRuntime,
     answer: Result<Lines, Failure>,
 ) -> Result<(), Failure>
-    ensures { FailureStays answer result }
+    ensures fails { FailureStays answer result }
+    ensures told { Printed answer result }
 {
     match answer {
         Ok(lines) => {

@@ -180,8 +180,11 @@ impl<S: Scan> Labelling<'_, S> {
     {
         let scan = self.scan;
         for (lane, label) in self.table.labels.iter_mut().enumerate() {
-            if label.is_none() {
-                *label = scan.gives(from, lane).map(|sign| Label {
+            if label.is_some() {
+                continue;
+            }
+            if let Some(sign) = scan.gives(from, lane) {
+                *label = Some(Label {
                     sign,
                     name: from,
                     level,

@@ -4,12 +4,12 @@
 // back along the names. The contracts say that all this is the labelling that the crate labelling defines.
 #![tactic(auto)]
 
-ghost use Rattle.std.specs.Prelude.{◌≡◌, ℕ, ◌+◌, ◌<◌, ◌≤◌, Bool, true, ◌&&◌, ◌++◌, map, replicate, IfOk, Some, None, vec_capacity, nat_lt};
+ghost use Rattle.std.specs.Prelude.{◌≡◌, ℕ, ◌+◌, ◌<◌, ◌≤◌, Bool, true, ◌&&◌, map, replicate, IfOk, Some, None, vec_capacity, nat_lt};
 ghost use Rattle.network.specs.States.{State, Pole};
 ghost use Rattle.labelling.specs.Table.{mark, name_of, is_at, state_of, give, listed, pass, ending_lane, lane_of_level, label as outcome_of, path as path_to};
 ghost use Rattle.labelling.specs.Steps.{row};
 ghost use Rattle.labels.specs.Labels.{Known, signed_state, from_state, gift, sign_at, sign_in, signed_by, found, came_out, marks_in, lanes_in};
-ghost use Rattle.labels.specs.Paths.{level_of, Falls, EndedAt, trail};
+ghost use Rattle.labels.specs.Paths.{level_of, Falls, EndedAt};
 
 use std::alloc::{AllocError, Global};
 
@@ -180,8 +180,11 @@ impl<S: Scan> Labelling<'_, S> {
     {
         let scan = self.scan;
         for (lane, label) in self.table.labels.iter_mut().enumerate() {
-            if label.is_none() {
-                *label = scan.gives(from, lane).map(|sign| Label {
+            if label.is_some() {
+                continue;
+            }
+            if let Some(sign) = scan.gives(from, lane) {
+                *label = Some(Label {
                     sign,
                     name: from,
                     level,

@@ -1,19 +1,24 @@
 -- Each lane is offered a label once, so that in the end all are.
-use Rattle.std.proofs.Common.{vec_items, ap, ◌∙◌, arith}
+use Rattle.std.proofs.Common.{vec_items, get_or, None, refl, ap, ◌∙◌, arith}
 use Rattle.std.proofs.lemmas.List.{with_items_is}
 use Rattle.std.proofs.lemmas.Grind.{common_steps}
 use Rattle.labelling.specs.Table.{give}
 use Rattle.labels.specs.Labels.{from_state, marks}
 use Rattle.labels.proofs.Parts.{part_more, part_all}
-use Rattle.labels.proofs.Labelling.scan_from.Goals.{then-is_none, else-is_none}
+use Rattle.labels.proofs.Labelling.scan_from.Goals.{in-Some, in_default}
 use Rattle.labels.proofs.Labelling.scan_from.Goals as goal
+
+pub loop-lane-preserved-then-is_some : goal.loop-lane-preserved-then-is_some
+loop-lane-preserved-then-is_some g c =
+    let f = give (g.S.Scan.rule c.args.self.now.scan.now) (from_state c.args.from) c.args.level in
+    part_more f _ c.loop-lane.label-items _ c.loop-lane.lane (get_or c.loop-lane.label-items c.loop-lane.lane None) (omega arith) refl (grind (arith, common_steps)) c.loop-lane.invariant
 
 pub loop-lane-preserved : goal.loop-lane-preserved
 loop-lane-preserved g c =
     let f = give (g.S.Scan.rule c.args.self.now.scan.now) (from_state c.args.from) c.args.level in
-    elim c.if-is_none.branch [
-      | then-is_none w ↦ part_more f _ c.loop-lane.label-items _ c.loop-lane.lane _ (omega arith) w.label-items-is (grind (arith, common_steps)) c.loop-lane.invariant
-      | else-is_none w ↦ part_more f _ c.loop-lane.label-items _ c.loop-lane.lane _ (omega arith) w.label-items-is (grind (arith, common_steps)) c.loop-lane.invariant
+    elim c.match-gives.branch [
+      | in-Some w ↦ part_more f _ c.loop-lane.label-items _ c.loop-lane.lane _ (omega arith) w.label-items-is (grind (arith, common_steps)) c.loop-lane.invariant
+      | in_default w ↦ part_more f _ c.loop-lane.label-items _ c.loop-lane.lane _ (omega arith) w.label-items-is (grind (arith, common_steps)) c.loop-lane.invariant
     ]
 
 pub returns-clause-marks : goal.returns-clause-marks

@@ -132,35 +132,21 @@ impl<'a> Body<'a> {
         ensures { record_shown result ≡ part_read kind scope.lanes_may_come scope.stations self.entry.at self.entry.bytes.now }
     {
         match kind {
-            Kind::Head => Err(RecordFault::Order { at: self.at }),
-            Kind::Lane => {
-                if !scope.lanes_may_come {
-                    return Err(RecordFault::Order { at: self.at });
-                }
-                Ok(Record::Lane(self.lane(scope.stations)?))
-            }
-            Kind::Table => {
-                let side = self.side(2, scope.stations)?;
-                Ok(Record::Limit(Limit::Table {
-                    side,
-                    caps: &self.bytes[2..],
-                }))
-            }
-            Kind::Groups => {
-                let side = self.side(4, scope.stations)?;
-                Ok(Record::Limit(Limit::Groups {
-                    side,
-                    count: self.word(2),
-                    numbers: &self.bytes[4..],
-                }))
-            }
-            Kind::Grades => {
-                let side = self.side(2, scope.stations)?;
-                Ok(Record::Limit(Limit::Grades {
-                    side,
-                    steps: &self.bytes[2..],
-                }))
-            }
+            Kind::Lane if scope.lanes_may_come => Ok(Record::Lane(self.lane(scope.stations)?)),
+            Kind::Head | Kind::Lane => Err(RecordFault::Order { at: self.at }),
+            Kind::Table => Ok(Record::Limit(Limit::Table {
+                side: self.side(2, scope.stations)?,
+                caps: &self.bytes[2..],
+            })),
+            Kind::Groups => Ok(Record::Limit(Limit::Groups {
+                side: self.side(4, scope.stations)?,
+                count: self.word(2),
+                numbers: &self.bytes[4..],
+            })),
+            Kind::Grades => Ok(Record::Limit(Limit::Grades {
+                side: self.side(2, scope.stations)?,
+                steps: &self.bytes[2..],
+            })),
         }
     }
 }

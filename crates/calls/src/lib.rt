@@ -13,11 +13,11 @@ ghost use Rattle.calls.specs.Kept.{CallsKeepThePromise, OpeningsKeepThePromise};
 #[derive(Clone, Copy, Debug, PartialEq, Eq)]
 pub enum Unfit {
     // A buffer whose length is not the number of lanes, or of stations.
-    Length,
+    Length = 12,
     // A load that breaks a cap or a station's balance.
-    Load,
+    Load = 13,
     // A cut read while the plan is not finished.
-    Unfinished,
+    Unfinished = 14,
 }
 
 impl Unfit {
@@ -25,11 +25,7 @@ impl Unfit {
     pub fn number(self) -> u8
         ensures { result ≡ refusal_number self }
     {
-        match self {
-            Unfit::Length => 12,
-            Unfit::Load => 13,
-            Unfit::Unfinished => 14,
-        }
+        self as u8
     }
 }
 

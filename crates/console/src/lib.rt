@@ -4,27 +4,20 @@
 
 ghost use Rattle.std.specs.Prelude.{◌≡◌};
 ghost use Rattle.std.specs.Process.{exit_status};
-ghost use Rattle.console.specs.Ending.{status_told, RefusalFails};
+ghost use Rattle.console.specs.Ending.{failure_words, status_told, FailureStays, Printed};
+ghost use Rattle.console.specs.declared.Failure.TheVariants.{NoMemory, Io};
 
 use std::alloc::AllocError;
-use std::io;
+use std::convert::AsSlice;
 use std::io::Read;
 use std::process::ExitCode;
-
-// What is printed of a file.
-#[derive(Drop)]
-pub enum Answer {
-    // The listing of an accepted file.
-    Listing(Vec<u8>),
-    // The line of the refusal.
-    Refusal(Vec<u8>),
-}
+use std::{fmt, io};
 
 // Why a program ends with status 1.
 #[derive(Drop)]
 pub enum Failure {
-    // The input is refused, and standard output says why.
-    Refused,
+    // The input is refused, which this line says.
+    Refused(String),
     NoMemory,
     // A read of standard input or a write failed.
     Io(io::Error),
@@ -33,14 +26,31 @@ pub enum Failure {
 }
 
 impl From<AllocError> for Failure {
+    ghost from_gives = { λ _ failure. failure ≡ NoMemory };
+
     fn from(_: AllocError) -> Failure {
         Failure::NoMemory
     }
 }
 
 impl From<io::Error> for Failure {
+    ghost from_gives = { λ e failure. failure ≡ Io e };
+
     fn from(e: io::Error) -> Failure {
         Failure::Io(e)
+    }
+}
+
+impl fmt::Display for Failure {
+    ghost output = { failure_words };
+
+    fn fmt<W: fmt::Write>(&self, f: &mut fmt::Formatter<W>) -> fmt::Result {
+        match self {
+            Failure::Refused(line) => write!(f, "{line}"),
+            Failure::NoMemory => write!(f, "out of memory"),
+            Failure::Io(e) => write!(f, "{e}"),
+            Failure::Sheet(e) => write!(f, "today.bin: {e}"),
+        }
     }
 }
 
@@ -58,34 +68,33 @@ pub fn read_file(rt: &HostRuntime, most_bytes: u32) -> io::Result<Vec<u8>> {
     read_to(rt, rt.stdin(), most_bytes)
 }
 
-// Prints an answer. A refusal is an answer too, but the program ends with status 1.
-pub fn print_answer(rt: &HostRuntime, answer: Answer) -> Result<(), Failure>
-    ensures { RefusalFails answer result }
+// Prints what a program answers, which is a listing or the line of a refusal. A refusal that is printed is a failure all the same.
+pub fn print_answer<Lines: AsSlice<u8> + Drop>(
+    rt: &HostRuntime,
+    answer: Result<Lines, Failure>,
+) -> Result<(), Failure>
+    ensures fails { FailureStays answer result }
+    ensures told { Printed answer result }
 {
     match answer {
-        Answer::Listing(lines) => {
+        Ok(lines) => {
             rt.write_all(lines.as_slice())?;
             Ok(())
         }
-        Answer::Refusal(line) => {
-            rt.write_all(line.as_slice())?;
-            Err(Failure::Refused)
+        Err(Failure::Refused(line)) => {
+            rt.write_all(line.as_bytes())?;
+            Err(Failure::Refused(line))
         }
+        Err(failure) => Err(failure),
     }
 }
 
-// Says on standard error why the program could not answer, in one line that begins with its name.
+// Says on standard error why the program could not answer, in one line that begins with its name. A refusal is an answer.
 pub fn tell_failure(rt: &HostRuntime, program: &str, ending: &Result<(), Failure>) {
     match ending {
-        Ok(()) | Err(Failure::Refused) => {}
-        Err(Failure::NoMemory) => {
-            let _ = eprintln!(rt; "{program}: out of memory");
-        }
-        Err(Failure::Io(e)) => {
-            let _ = eprintln!(rt; "{program}: {e}");
-        }
-        Err(Failure::Sheet(e)) => {
-            let _ = eprintln!(rt; "{program}: today.bin: {e}");
+        Ok(()) | Err(Failure::Refused(_)) => {}
+        Err(failure) => {
+            let _ = eprintln!(rt; "{program}: {failure}");
         }
     }
 }
@@ -95,7 +104,7 @@ pub fn status_of(ending: Result<(), Failure>) -> ExitCode
     ensures { exit_status result ≡ status_told ending }
 {
     match ending {
-        Ok(()) => ExitCode::from(0),
-        Err(_) => ExitCode::from(1),
+        Ok(()) => ExitCode::SUCCESS,
+        Err(_) => ExitCode::FAILURE,
     }
 }

@@ -28,12 +28,13 @@ fn byte(high: u8, low: u8) -> Option<u8>
 pub fn bytes_of(heap: Global, digits: &[u8]) -> Result<Option<Vec<u8>>, AllocError>
     ensures { IfOk result (λ o. MatchOption o ((bs : List ℕ) → Writes digits.now bs → ⊥) (λ v. Writes digits.now v.items)) }
 {
-    if digits.len() % 2 != 0 {
+    let (pairs, odd) = digits.as_chunks::<2>();
+    if !odd.is_empty() {
         return Ok(None);
     }
     let mut bytes = Vec::new(heap);
-    for k in 0..digits.len() / 2 {
-        let Some(b) = byte(digits[2 * k], digits[2 * k + 1]) else {
+    for [high, low] in pairs {
+        let Some(b) = byte(*high, *low) else {
             return Ok(None);
         };
         bytes.push(b)?;

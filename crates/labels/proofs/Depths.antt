@@ -1,5 +1,5 @@
 -- What a labelling leaves: names that lie one level lower, and no more levels than lanes.
-use Rattle.std.proofs.Common.{◌≡◌, ℕ, zero, suc, ◌-◌, ◌<◌, ◌≤◌, Bool, true, false, eqb, List, length, Some, None, Option, sym, refl, ap, ◌∙◌, subst, inl, inr, arith}
+use Rattle.std.proofs.Common.{◌≡◌, ℕ, zero, suc, ◌-◌, ◌<◌, ◌≤◌, Bool, true, false, eqb, List, Some, None, Option, sym, refl, ap, ◌∙◌, subst, inl, inr, arith}
 use Rattle.std.proofs.lemmas.Bool.{cases_lt, both_ways, eqb-true, eq-eqb}
 use Rattle.polymatroid.specs.Finite.{first}
 use Rattle.polymatroid.proofs.Finite.{first_passes, first_before}
@@ -11,9 +11,8 @@ use Rattle.labelling.proofs.Levels.{good_tab}
 use Rattle.labelling.proofs.Outcomes.{Right, label_right}
 use Rattle.labels.specs.Labels.{came_out}
 use Rattle.labels.specs.Paths.{level_of, Lies, Falls, EndedAt}
-use Rattle.labels.proofs.Trails.{labelled_below}
 
-module _ (m : ℕ) (t : List Mark) (size : length t ≡ m) (fall : Falls t) where
+module _ (m : ℕ) (t : List Mark) (in_table : (y : ℕ) → 0 < level_of (mark t y) → y < m) (fall : Falls t) where
   -- a lane of each level below that of a lane
   descend : (n y : ℕ) → level_of (mark t y) ≡ n → (i : ℕ) → i < n → (x : ℕ) × (level_of (mark t x) ≡ suc i)
   descend zero y q i h = absurd (omega arith)
@@ -38,7 +37,7 @@ module _ (m : ℕ) (t : List Mark) (size : length t ≡ m) (fall : Falls t) wher
       elim (cases_lt (lane i) m) [
         | inl h ↦ (h, eqb-true (level_of (mark t (lane i))) (suc i) (first_passes (λ x. eqb (level_of (mark t x)) (suc i)) m h))
         | inr h ↦
-            let b = labelled_below t m x size (omega arith) in
+            let b = in_table x (omega arith) in
             absurd (both_ways (eqb (level_of (mark t x)) (suc i)) (first_before (λ x. eqb (level_of (mark t x)) (suc i)) m x (omega arith)) (eq-eqb (level_of (mark t x)) (suc i) q))
       ]
 
@@ -57,6 +56,13 @@ module _ (r : State → State → Bool) (m : ℕ) where
   lies_at l i (Plus e) s = (ap level_of s.1, (good_tab r m l).some e true s.0 i s.1)
   lies_at l i (Minus e) s = (ap level_of s.1, (good_tab r m l).some e false s.0 i s.1)
 
+  in_table_up_to : (l y : ℕ) → 0 < level_of (mark (table_up_to r m l) y) → y < m
+  in_table_up_to l y h =
+      elim (cases_lt y m) [
+        | inl g ↦ g
+        | inr g ↦ let e : level_of (mark (table_up_to r m l) y) ≡ 0 = ap level_of ((good_tab r m l).off y g) in absurd (omega arith)
+      ]
+
   falls_table : (l : ℕ) → Falls (table_up_to r m l)
   falls_table l y h = by (mark (table_up_to r m l) y) refl h
     where
@@ -74,13 +80,14 @@ module _ (r : State → State → Bool) (m : ℕ) where
   label_falls (Some p) t e = subst Falls (sym (right (Some p) t e).is) (falls_table p.0)
 
   level_is : (l : ℕ) (p : Mark) → is_at l p ≡ true → level_of p ≡ l
-  level_is l Blank q = let z : ◌≡◌ {A = ℕ} 0 1 = cc in absurd (omega arith)
+  level_is l Blank q = cc
   level_is l (Given s x k) q = eqb-true k l q
 
   -- the lane at which the labelling ends has a label of the level
-  pub label_ended_at : (o : Option (ℕ × ℕ)) (t : List Mark) → length t ≡ m → label r m ≡ came_out o t → EndedAt m o t
-  label_ended_at None t n e = tt
-  label_ended_at (Some p) t n e =
+  pub label_ended_at : (o : Option (ℕ × ℕ)) (t : List Mark) → label r m ≡ came_out o t → EndedAt m o t
+  label_ended_at None t e = tt
+  label_ended_at (Some p) t e =
       let d = right (Some p) t e in
       let q : level_of (mark t p.1) ≡ p.0 = ap (λ u. level_of (mark u p.1)) d.is ∙ level_is p.0 _ d.level in
-      (q, d.some, omega (arith, few_levels m t n (label_falls (Some p) t e) p.1), d.lane)
+      let below = subst (λ t. (y : ℕ) → 0 < level_of (mark t y) → y < m) (sym d.is) (in_table_up_to p.0) in
+      (q, d.some, omega (arith, few_levels m t below (label_falls (Some p) t e) p.1), d.lane)

@@ -1,6 +1,5 @@
 pub mod Marks
 pub mod Parts
-pub mod Signs
 pub mod Sweeps
 pub mod Searches
 pub mod Levels

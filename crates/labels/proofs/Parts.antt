@@ -1,8 +1,11 @@
 -- A table that changes lane by lane, each lane by itself.
-use Rattle.std.proofs.Common.{◌≡◌, ℕ, zero, suc, ◌+◌, ◌<◌, ◌≤◌, List, [], ◌∷◌, length, set, sym, refl, ap, ◌∙◌, inl, inr, arith}
-use Rattle.std.proofs.lemmas.List.{get_or-set_same, get_or-set_other}
-use Rattle.std.proofs.lemmas.Bool.{cases_eq}
-use Rattle.labelling.specs.Table.{Mark, Blank, mark, listed}
+use Rattle.std.proofs.Common.{◌≡◌, ℕ, zero, suc, ◌+◌, ◌<◌, ◌≤◌, List, [], ◌∷◌, length, get_or, set, None, Option, refl, ap, ◌∙◌, arith}
+use Rattle.std.proofs.lemmas.List.{length-map}
+use Rattle.std.proofs.lemmas.Grind.{common_steps}
+use Rattle.labelling.specs.Table.{Mark, mark, listed}
+use Rattle.labels.specs.declared.Label.{Label}
+use Rattle.labels.specs.Labels.{mark_of, marks}
+use Rattle.labels.proofs.Marks.{mark_at}
 
 -- a table is the list of its marks
 pub listed_from : (h : ℕ → Mark) (n k : ℕ) (u : List Mark) → length u ≡ n → ((i : ℕ) → i < n → mark u i ≡ h (k + i)) → u ≡ listed h n k
@@ -20,23 +23,20 @@ pub listed_all : (h : ℕ → Mark) (n : ℕ) (u : List Mark) → length u ≡ n
 listed_all h n u e q = listed_from h n 0 u e (λ i l. q i l ∙ ap h (omega arith))
 
 -- the lanes below y are changed by f, the others are as they were
-abbrev pub Part : (ℕ → Mark → Mark) → List Mark → List Mark → ℕ → Type 0
-Part f t u y = ((k : ℕ) → k < y → mark u k ≡ f k (mark t k)) × ((k : ℕ) → y ≤ k → mark u k ≡ mark t k)
+abbrev pub Part : (ℕ → Mark → Mark) → List (Option Label) → List (Option Label) → ℕ → Type 0
+Part f t u y = record {
+  changed : (k : ℕ) → k < y → mark (marks u) k ≡ f k (mark (marks t) k);
+  others : (k : ℕ) → y ≤ k → mark (marks u) k ≡ mark (marks t) k;
+}
 
-module _ (f : ℕ → Mark → Mark) (t : List Mark) where
-  pub part_none : Part f t t 0
-  part_none = (λ k h. absurd (omega arith), λ k h. refl)
+module _ (f : ℕ → Mark → Mark) (t : List (Option Label)) where
+  -- one lane more
+  pub part_more : (u v : List (Option Label)) (y : ℕ) (o : Option Label) → y < length u → v ≡ set u y o → mark_of o ≡ f y (mark_of (get_or u y None)) → Part f t u y → Part f t v (y + 1)
+  part_more u v y o h e q p = record {
+    changed = λ k l. grind (arith, common_steps, mark_at, p.changed k, p.others k);
+    others = λ k l. grind (arith, common_steps, mark_at, p.others k);
+  }
 
-  pub part_more : (u v : List Mark) (y : ℕ) → y < length u → v ≡ set u y (f y (mark u y)) → Part f t u y → Part f t v (y + 1)
-  unfolding mark
-  part_more u v y h e p = (
-    λ k l.
-        elim (cases_eq k y) [
-          | inl o ↦ ap (λ v. mark v k) e ∙ ap (λ k. mark (set u y (f y (mark u y))) k) o ∙ get_or-set_same u y (f y (mark u y)) Blank h ∙ ap (f y) (p.1 y (omega arith)) ∙ sym (ap (λ k. f k (mark t k)) o)
-          | inr o ↦ ap (λ v. mark v k) e ∙ get_or-set_other u y k (f y (mark u y)) Blank o ∙ p.0 k (omega arith)
-        ],
-    λ k l. let o : k ≡ y → ⊥ = λ q. omega arith in ap (λ v. mark v k) e ∙ get_or-set_other u y k (f y (mark u y)) Blank o ∙ p.1 k (omega arith),
-  )
-
-  pub part_all : (u : List Mark) (n : ℕ) → length u ≡ n → Part f t u n → u ≡ listed (λ k. f k (mark t k)) n 0
-  part_all u n e p = listed_all (λ k. f k (mark t k)) n u e p.0
+  -- all lanes
+  pub part_all : (u : List (Option Label)) (n y : ℕ) → length u ≡ n → n ≤ y → Part f t u y → marks u ≡ listed (λ k. f k (mark (marks t) k)) n 0
+  part_all u n y e h p = listed_all (λ k. f k (mark (marks t) k)) n (marks u) (length-map u mark_of ∙ e) (λ k l. p.changed k (omega arith))

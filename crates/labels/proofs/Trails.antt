@@ -1,46 +1,38 @@
--- A way back along the names, one lane on.
-use Rattle.std.proofs.Common.{◌≡◌, ℕ, suc, ◌-◌, ◌<◌, Bool, true, false, List, [], ◌∷◌, length, sym, refl, ap, ◌∙◌, subst, inl, inr, arith}
-use Rattle.std.proofs.lemmas.List.{get_or_past}
-use Rattle.std.proofs.lemmas.Bool.{cases_lt}
-use Rattle.network.specs.States.{State, Pole, lane_number}
-use Rattle.labelling.specs.Table.{Mark, Blank, signed, mark, name_of}
-use Rattle.labels.specs.Paths.{level_of, Lies, Falls, trail}
+-- The way back along the names, one lane on.
+use Rattle.std.proofs.Common.{◌≡◌, ℕ, ◌+◌, ◌-◌, ◌<◌, Bool, true, false, List, Some, None, Option, MatchOption, sym, refl, ap, ◌∙◌, subst, add-one, arith}
+use Rattle.network.specs.States.{lane_number}
+use Rattle.labelling.specs.Table.{Mark, signed, mark, name_of, name, back}
+use Rattle.labels.specs.declared.SignedLane.{SignedLane}
+use Rattle.labels.specs.Labels.{is_plus, signed_state, from_state}
+use Rattle.labels.specs.Paths.{level_of, Lies, Falls}
 
--- a lane with a label is in the table
-pub labelled_below : (t : List Mark) (n y : ℕ) → length t ≡ n → 0 < level_of (mark t y) → y < n
-unfolding mark
-labelled_below t n y e h =
-    elim (cases_lt y n) [
-      | inl l ↦ l
-      | inr l ↦ let b : level_of (mark t y) ≡ 0 = ap level_of (get_or_past t y Blank (omega arith)) in absurd (omega arith)
-    ]
-
+-- a signed lane has the lane's number
 pub number_signed : (b : Bool) (e : ℕ) → lane_number (signed b e) ≡ e
 number_signed true e = refl
 number_signed false e = refl
 
+-- a signed lane lies where the lane has its label
 lies_signed : (t : List Mark) (i : ℕ) (b : Bool) (e : ℕ) → Lies t i (signed b e) → (level_of (mark t e) ≡ i) × (0 < i)
 lies_signed t i true e h = h
 lies_signed t i false e h = h
 
-module _ (t : List Mark) (fall : Falls t) (x : State) (y : ℕ) (at : lane_number x ≡ y) (some : 0 < level_of (mark t y)) where
-  -- the way ends with a lane that names the start
-  pub trail_last : Pole false ≡ name_of (mark t y) → trail (level_of (mark t y)) t x ≡ x ∷ []
-  trail_last e =
-      let low : level_of (mark t y) - 1 ≡ 0 = subst (Lies t (level_of (mark t y) - 1)) (sym e) (fall y some) in
-      let one : level_of (mark t y) ≡ 1 = omega arith in
-      ap (λ n. trail n t x) one
+-- the state before a signed lane is the lane's name
+name_signed : (e : ℕ) (t : List Mark) (b : Bool) (y : ℕ) → name e t (signed b y) ≡ name_of (mark t y)
+unfolding name
+name_signed e t true y = refl
+name_signed e t false y = refl
 
-  module _ (b : Bool) (z : ℕ) (e : signed b z ≡ name_of (mark t y)) where
-    lies : (level_of (mark t z) ≡ level_of (mark t y) - 1) × (0 < level_of (mark t y) - 1)
-    lies = lies_signed t (level_of (mark t y) - 1) b z (subst (Lies t (level_of (mark t y) - 1)) (sym e) (fall y some))
+module _ (t : List Mark) (s : SignedLane) (o : Option SignedLane) (q : from_state o ≡ name_of (mark t s.lane)) where
+  -- the name of a lane is the state before it
+  pub back_more : (e k n : ℕ) → n ≡ k + 1 → signed_state s ≡ back e t (k + 1) → from_state o ≡ back e t (n + 1)
+  unfolding back
+  back_more e k n a h = rw add-one (q ∙ sym (name_signed e t (is_plus s.sign) s.lane) ∙ ap (name e t) (h ∙ ap (back e t) (sym a)))
 
-    -- a lane that names a lane lies one level above it
-    pub trail_down : (0 < level_of (mark t z)) × (level_of (mark t y) ≡ suc (level_of (mark t z)))
-    trail_down = let h = lies in (omega arith, omega arith)
-
-    -- the way goes on from the lane that is named
-    pub trail_more : trail (level_of (mark t y)) t x ≡ x ∷ trail (level_of (mark t z)) t (signed b z)
-    trail_more =
-        ap (λ n. trail n t x) trail_down.1 ∙ ap (λ w. x ∷ trail (level_of (mark t z)) t (name_of (mark t w))) at
-        ∙ ap (λ w. x ∷ trail (level_of (mark t z)) t w) (sym e)
+  -- and lies one level lower
+  pub level_more : Falls t → (k n l : ℕ) → n ≡ k + 1 → 0 < level_of (mark t s.lane) → k + level_of (mark t s.lane) ≡ l
+      → MatchOption o (n ≡ l) (λ z. (0 < level_of (mark t z.lane)) × (n + level_of (mark t z.lane) ≡ l))
+  level_more fall k n l a h e = by o (subst (Lies t (level_of (mark t s.lane) - 1)) (sym q) (fall s.lane h))
+    where
+      by : (o : Option SignedLane) → Lies t (level_of (mark t s.lane) - 1) (from_state o) → MatchOption o (n ≡ l) (λ z. (0 < level_of (mark t z.lane)) × (n + level_of (mark t z.lane) ≡ l))
+      by None g = omega arith
+      by (Some z) g = let i = lies_signed t (level_of (mark t s.lane) - 1) (is_plus z.sign) z.lane g in (omega arith, omega arith)

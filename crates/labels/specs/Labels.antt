@@ -8,12 +8,12 @@ use Rattle.labels.specs.declared.SignedLane.{SignedLane}
 use Rattle.labels.specs.declared.Label.{Label}
 use Rattle.labels.specs.declared.LabelTable.{LabelTable}
 
--- + is true
+-- whether a sign is +
 abbrev pub is_plus : Sign → Bool
 is_plus sign.Plus = true
 is_plus sign.Minus = false
 
--- and back
+-- the sign that is + at true
 abbrev pub sign_of : Bool → Sign
 sign_of true = sign.Plus
 sign_of false = sign.Minus
@@ -45,10 +45,11 @@ mark_of (Some l) = Given (is_plus l.sign) (from_state l.name) l.level
 abbrev pub marks : List (Option Label) → List Mark
 marks t = map mark_of t
 
--- the marks and the number of lanes of a program's table
+-- the marks of a program's table
 abbrev pub marks_in : LabelTable → List Mark
 marks_in t = marks (vec_items t.labels)
 
+-- the number of lanes of a program's table
 abbrev pub lanes_in : LabelTable → ℕ
 lanes_in t = vec_len t.labels
 
@@ -57,7 +58,7 @@ abbrev pub sign_at : ℕ → Mark → Option Sign
 sign_at l Blank = None
 sign_at l (Given s x k) = cond (k == l) (Some (sign_of s)) None
 
--- the sign of a mark, if it is one
+-- the sign of a mark, if it is a label
 abbrev pub sign_in : Mark → Option Sign
 sign_in Blank = None
 sign_in (Given s x k) = Some (sign_of s)

@@ -1,44 +1,29 @@
--- The code of a set without the closed positions, as a program computes it: the bits that the set shares with the closed set are
--- turned off.
-use mathlib.Core.Path.{◌≡◌, refl}
-use mathlib.Core.Bool.{Bool, true, false, not, ◌&&◌}
-use Prim.Native.Nat.{ℕ, zero, suc, ◌/◌, ◌%◌, ◌^◌, ◌<◌}
-use native.Mathlib.Omega.{arith}
-use lib.Bits.{bit_and, bit_xor, xor_shr, xor_mod, xor_lt, and_le_l}
-use lib.Dec.{eqb}
+-- The code of a set without the closed positions, as a program computes it: the bits of the set that the code of the closed
+-- positions has not.
+use Rattle.std.proofs.Common.{◌≡◌, ℕ, ◌^◌, ◌<◌, not, inl, inr, arith, w64}
+use Rattle.std.specs.Int.{bit_not}
+use Rattle.std.specs.Int.Bits.{bit_and}
+use Rattle.std.proofs.lemmas.Bool.{cases_lt}
+use Rattle.std.proofs.lemmas.Bool.Decides.{nat_tests}
+use Rattle.std.proofs.lemmas.Nat.Bits.{bit_at_not}
+use lib.Bits.{and_le_l}
 use Rattle.polymatroid.specs.Sets.{has}
 use Rattle.polymatroid.specs.Kinds.{kept}
-use Rattle.polymatroid.proofs.Codes.{has_and, same_sets}
+use Rattle.polymatroid.proofs.Codes.{has_and, has_past, same_sets}
 use Rattle.polymatroid.proofs.Layers.{kept_below, has_kept}
 
--- one test or the other, and not both
-abbrev one_of : Bool → Bool → Bool
-one_of true b = not b
-one_of false b = b
-
-xor_digit : (a b : ℕ) → a < 2 → b < 2 → eqb (bit_xor a b) 1 ≡ one_of (eqb a 1) (eqb b 1)
-xor_digit zero b ha hb = refl
-xor_digit (suc zero) zero ha hb = refl
-xor_digit (suc zero) (suc zero) ha hb = refl
-xor_digit (suc zero) (suc (suc b)) ha hb = absurd (omega arith)
-xor_digit (suc (suc a)) b ha hb = absurd (omega arith)
-
-has_xor : (X Y p : ℕ) → has (bit_xor X Y) p ≡ one_of (has X p) (has Y p)
+-- the bits of a number of 64 bits that another has not
+has_not : (C p : ℕ) → C < 2 ^ 64 → p < 64 → has (bit_not w64 C) p ≡ not (has C p)
 unfolding has
-has_xor X Y p =
-    rw (xor_shr X Y p, xor_mod (X / 2 ^ p) (Y / 2 ^ p) 1)
-    (xor_digit (X / 2 ^ p % 2) (Y / 2 ^ p % 2) (omega arith) (omega arith))
+has_not C p fits on = let a = bit_at_not w64 C p fits on in grind (arith, nat_tests)
 
-shared_off : (x y : Bool) → one_of x (x && y) ≡ (x && not y)
-shared_off true y = refl
-shared_off false y = refl
-
-pub turned_off_is_kept : (k C X : ℕ) → X < 2 ^ k → bit_xor X (bit_and X C) ≡ kept k (has C) X
-turned_off_is_kept k C X l =
-    same_sets k (bit_xor X (bit_and X C)) (kept k (has C) X) (xor_lt k X (bit_and X C) l (omega (arith, and_le_l X C))) (kept_below k (has C) X)
+pub open_is_kept : (k C X : ℕ) → C < 2 ^ 64 → X < 2 ^ 64 → X < 2 ^ k → bit_and X (bit_not w64 C) ≡ kept k (has C) X
+open_is_kept k C X fits set l =
+    same_sets k (bit_and X (bit_not w64 C)) (kept k (has C) X) (omega (arith, and_le_l X (bit_not w64 C))) (kept_below k (has C) X)
     (λ p m.
-    let a = has_xor X (bit_and X C) p in
-    let b = has_and X C p in
-    let c = shared_off (has X p) (has C p) in
+    let a = has_and X (bit_not w64 C) p in
     let d = has_kept k (has C) X p m in
-    cc)
+    elim (cases_lt p 64) [
+      | inl h ↦ let b = has_not C p fits h in cc
+      | inr h ↦ let b = has_past 64 X p set h in grind arith
+    ])

@@ -1,6 +1,7 @@
 -- The lanes of a side of a line, by the number of the side: which row of lanes they are, if any.
 use Rattle.std.proofs.Common.{◌≡◌, ℕ, ◌+◌, ◌-◌, ◌*◌, ◌/◌, ◌%◌, ◌<◌, ◌≤◌, Bool, true, false, cond, ◌∙◌, ap₂, inl, inr, arith}
-use Rattle.std.proofs.lemmas.Bool.{cases_lt, eq-eqb, ne_eqb}
+use Rattle.std.proofs.lemmas.Bool.{cases_lt, eq-eqb}
+use Rattle.std.proofs.lemmas.Bool.Decides.{nat_tests}
 use Rattle.floor.specs.Floor.{end_of, station_of, count, width, lane_at}
 use Rattle.linefloor.specs.Line.{line_floor}
 use Rattle.linefloor.proofs.Rows.{count_row, count_past, count_first, lane_in_row}
@@ -14,12 +15,9 @@ record InRow (s : ℕ) (b : Bool) (j : ℕ) : Type 0 where
 row_behind : (s : ℕ) → (s ≡ 1 → ⊥) → (b : Bool) × InRow s b (s / 2 - s % 2)
 row_behind s not_one =
     elim (cases_lt 0 (s % 2)) [
-      | inl l ↦ (true, record { side_end = eq-eqb (s % 2) 1 (omega arith); side_station = later l })
-      | inr l ↦ (false, record { side_end = ne_eqb (s % 2) 1 (λ q. omega arith); side_station = omega arith })
+      | inl l ↦ (true, record { side_end = grind (arith, nat_tests); side_station = grind (arith, nat_tests) })
+      | inr l ↦ (false, record { side_end = grind (arith, nat_tests); side_station = grind (arith, nat_tests) })
     ]
-  where
-    later : 0 < s % 2 → s / 2 ≡ s / 2 - s % 2 + 1
-    later l = elim (cases_lt 0 (s / 2)) [ inl m ↦ omega arith | inr m ↦ absurd (not_one (omega arith)) ]
 
 module _ (n d s : ℕ) where
   -- a side of a row before the last station has as many lanes as every row
@@ -53,12 +51,14 @@ module _ (n d s : ℕ) where
         | inr l ↦ absurd (omega (arith, width_past not_one l))
       ]
 
+  -- such a side has a row behind it
+  pub row_there : (p : ℕ) → p < width (line_floor n d) s → s % 2 ≤ s / 2
+  row_there p there = elim (cases_lt (s / 2) (s % 2)) [ inl l ↦ absurd (omega (arith, width_first (omega arith))) | inr l ↦ l ]
+
   -- neither of the two sides that have none
   pub width_whole : (s ≡ 1 → ⊥) → (s ≡ 2 * (n - 1) → ⊥) → s < 2 * n → width (line_floor n d) s ≡ d
-  width_whole not_one not_last on = width_some not_one before
-    where
-      before : s / 2 - s % 2 < n - 1
-      before = elim (cases_lt (s / 2 - s % 2) (n - 1)) [ inl l ↦ l | inr l ↦ absurd (not_last (omega arith)) ]
+  width_whole not_one not_last on =
+      elim (cases_lt (s / 2 - s % 2) (n - 1)) [ inl l ↦ width_some not_one l | inr l ↦ absurd (not_last (omega arith)) ]
 
   pub width_bare : 2 ≤ n → s ≡ 2 * (n - 1) → width (line_floor n d) s ≡ 0
   width_bare two h = width_past (λ q. omega arith) (omega arith)

@@ -3,11 +3,13 @@ use Rattle.std.specs.Prelude.{◌≡◌, ℕ, ◌-◌, ◌*◌, Bool, cond, ◌&
 use Rattle.plant.specs.Refusals.{refusal}
 use Rattle.plant.specs.declared.refusals.Reason.{Reason}
 use Rattle.plant.specs.declared.refusals.Reason.TheVariants as reason
+use Rattle.plant.specs.declared.refusals.Law.TheVariants.{Bends}
 use Rattle.plant.specs.declared.refusals.Layer.TheVariants as layer
 use Rattle.plant.specs.declared.refusals.Refusal.{Refusal}
 use Rattle.floor.specs.Numbers.{most_stations, most_lanes, most_on_side}
 use Rattle.floor.specs.Meaning.{Meaning}
 use Rattle.linefloor.specs.Line.{line_meaning, grades_low, grades_fall}
+use Rattle.arrayvec.specs.ArrayVec.{array_vec_len}
 use Rattle.lines.specs.declared.line_plant.LinePlant.{LinePlant}
 
 -- the grades of a list, by their numbers
@@ -17,8 +19,8 @@ grade_of gs j = slice_index gs j
 -- ---- the verdict
 
 -- a refusal of a line, which has no place
-abbrev pub line_refusal : Reason → ℕ → Refusal
-line_refusal r law = refusal r layer.Line 0 law
+abbrev pub line_refusal : Reason → Refusal
+line_refusal r = refusal r layer.Line 0
 
 -- two stations at least and not too many, one lane to the next station at least and not too many
 abbrev pub ranged : ℕ → ℕ → Bool
@@ -32,17 +34,17 @@ line_judged n d gs =
     (cond (length gs == d)
     (cond (nat_le ((n - 1) * d) most_lanes)
     (cond (grades_low (length gs) (grade_of gs))
-    (cond (grades_fall (length gs) (grade_of gs)) (Ok tt) (Err (line_refusal reason.Law 3)))
-    (Err (line_refusal reason.Range 0)))
-    (Err (line_refusal reason.TooMany 0)))
-    (Err (line_refusal reason.Size 0)))
-    (Err (line_refusal reason.Range 0))
+    (cond (grades_fall (length gs) (grade_of gs)) (Ok tt) (Err (line_refusal (reason.Law Bends))))
+    (Err (line_refusal reason.Range)))
+    (Err (line_refusal reason.TooMany)))
+    (Err (line_refusal reason.Size)))
+    (Err (line_refusal reason.Range))
 
 -- ---- the plant
 
 -- what a line plant means
 abbrev pub meant : LinePlant → Meaning
-meant p = line_meaning p.stations p.between (λ j. slice_index p.grades j)
+meant p = line_meaning p.stations (array_vec_len p.grades) (λ j. slice_index p.grades.items j)
 
 -- the line of these numbers
 abbrev pub IsLine : ℕ → ℕ → List ℕ → LinePlant → Type 0
@@ -56,7 +58,3 @@ IsEmpty p = meant p ≡ line_meaning 2 0 (λ _. 0)
 abbrev pub LineMade : ℕ → ℕ → List ℕ → LinePlant → Result (Unit {0}) Refusal → Type 0
 LineMade n d gs p (Ok _) = IsLine n d gs p
 LineMade n d gs p (Err _) = IsEmpty p
-
--- two lists have the same grades, if 0 is taken for those that are not there
-abbrev pub SameGrades : List ℕ → List ℕ → Type 0
-SameGrades gs hs = (j : ℕ) → slice_index hs j ≡ slice_index gs j

@@ -1,45 +1,32 @@
 // Making a line.
-ghost use Rattle.std.specs.Prelude.{◌≡◌, ◌≤◌, length, Ok};
-ghost use Rattle.floor.specs.Numbers.{most_on_side};
-ghost use Rattle.lines.specs.Made.{line_judged, IsLine, IsEmpty, LineMade, SameGrades};
+ghost use Rattle.std.specs.Prelude.{◌≡◌, length, Ok};
+ghost use Rattle.lines.specs.Made.{line_judged, IsLine, IsEmpty, LineMade};
 
 use crate::checks::check_line;
 use crate::line_plant::LinePlant;
-use plant::{MOST_ON_SIDE, Refusal};
-
-// The grades with 0 behind them.
-fn filled_up(grades: &[u32]) -> [u32; MOST_ON_SIDE]
-    requires { length grades.now ≤ most_on_side }
-    ensures { SameGrades grades.now result }
-{
-    let mut all = [0; MOST_ON_SIDE];
-    for j in 0..grades.len() {
-        all[j] = grades[j];
-    }
-    all
-}
+use arrayvec::ArrayVec;
+use plant::Refusal;
 
 impl LinePlant {
     // The line that was accepted.
-    fn accepted(stations: usize, between: usize, grades: &[u32]) -> LinePlant
-        requires { line_judged stations between grades.now ≡ Ok tt }
-        ensures { IsLine stations between grades.now result }
+    fn accepted(stations: usize, grades: &[u32]) -> LinePlant
+        requires { line_judged stations (length grades.now) grades.now ≡ Ok tt }
+        ensures { IsLine stations (length grades.now) grades.now result }
     {
         LinePlant {
             stations,
-            between,
-            grades: filled_up(grades),
+            grades: ArrayVec::try_from(grades).unwrap(),
         }
     }
 
     // The empty floor: two stations, stock 0, despatch 1, no lane.
+    #[tactic(auto, unfolding(linefloor::specs::Line::grades_low, linefloor::specs::Line::grades_fall, polymatroid::specs::Tables::every))]
     fn empty() -> LinePlant
         ensures { IsEmpty result }
     {
         LinePlant {
             stations: 2,
-            between: 0,
-            grades: [0; MOST_ON_SIDE],
+            grades: ArrayVec::new(),
         }
     }
 }
@@ -55,7 +42,7 @@ pub fn make_line(
     ensures made { LineMade stations between grades.now result.0 result.1 }
 {
     match check_line(stations, between, grades) {
-        Ok(()) => (LinePlant::accepted(stations, between, grades), Ok(())),
+        Ok(()) => (LinePlant::accepted(stations, grades), Ok(())),
         Err(refusal) => (LinePlant::empty(), Err(refusal)),
     }
 }

@@ -2,10 +2,8 @@
 use Rattle.std.specs.Prelude.{◌≡◌, ℕ, zero, suc, ◌^◌, cond, List, [], ◌++◌, codes, decimal, Result, OnOk, ◌==◌}
 use Rattle.floor.specs.Floor.{Floor, stock, despatch, leaving, entering, sides, width, end_of, station_of, lane_at}
 use Rattle.floor.specs.Meaning.{Meaning}
-use Rattle.plant.specs.declared.refusals.Layer.{Layer}
-use Rattle.plant.specs.declared.refusals.Layer.TheVariants.{Framing, Record, Floor as OnFloor, Limit, Pile, Line}
 use Rattle.plant.specs.declared.refusals.Refusal.{Refusal}
-use Rattle.plant.specs.Refusals.{number_of}
+use Rattle.plant.specs.Refusals.{refusal_words}
 
 -- what f says of 0, of 1, and so on, n times, one after another
 abbrev pub each : ℕ → (ℕ → List ℕ) → List ℕ
@@ -62,17 +60,6 @@ plant_lines M = floor_line M.floor ++ lane_lines M.floor ++ side_lines M
 
 -- ---- a refusal
 
--- the word for each layer
-abbrev pub layer_word : Layer → List ℕ
-layer_word Framing = codes "framing"
-layer_word Record = codes "record"
-layer_word OnFloor = codes "floor"
-layer_word Limit = codes "limit"
-layer_word Pile = codes "pile"
-layer_word Line = codes "line"
-
--- what is refused, the number of the reason, the layer, the place and the law
+-- what is refused, and the words of the refusal
 abbrev pub refusal_line : List ℕ → Refusal → List ℕ
-refusal_line source r =
-    codes "refused " ++ source ++ spaced (number_of r.reason) ++ codes " " ++ layer_word r.layer ++ codes " at" ++ spaced r.place
-    ++ codes " law" ++ spaced r.law ++ codes "\n"
+refusal_line source r = codes "refused " ++ (source ++ (codes " " ++ (refusal_words r ++ codes "\n")))

@@ -1,16 +1,15 @@
 // What may be set over a line, and what a sheet sets.
 use lines::{LinePlant, make_line};
 use piles::{Ceiling, Closing};
-use plant::{Layer, Plant, Reason, Refusal};
+use plant::{Law, Layer, Plant, Reason, Refusal};
 use sheets::apply_sheet;
 
-// A refusal that names no law.
+// A refusal in a layer, at a place.
 fn refused(reason: Reason, layer: Layer, place: usize) -> Result<(), Refusal> {
     Err(Refusal {
         reason,
         layer,
         place,
-        law: 0,
     })
 }
 
@@ -36,15 +35,8 @@ fn lines_are_refused_by_their_first_fault(rt: HostRuntime) {
     let (_, verdict) = make_line(3, 2, &[1, 100_001]);
     assert_eq!(rt; verdict, refused(Reason::Range, Layer::Line, 0));
     let (line, verdict) = make_line(3, 2, &[2, 5]);
-    assert_eq!(rt;
-        verdict,
-        Err(Refusal {
-            reason: Reason::Law,
-            layer: Layer::Line,
-            place: 0,
-            law: 3,
-        })
-    );
+    assert_eq!(rt; verdict, refused(Reason::Law(Law::Bends), Layer::Line, 0));
+    assert_eq!(rt; Reason::Law(Law::Bends).law_number(), 3);
     assert_eq!(rt; line.stations(), 2);
     assert_eq!(rt; line.lanes(), 0);
 }

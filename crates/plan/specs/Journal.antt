@@ -11,8 +11,6 @@ use Rattle.plan.specs.Plans.{state, Knows}
 use Rattle.plan.specs.declared.plan.Plan.{Plan}
 use Rattle.plan.specs.declared.journal.Call.{Call}
 use Rattle.plan.specs.declared.journal.Call.TheVariants as call
-use Rattle.plan.specs.declared.journal.Steps.{Steps}
-use Rattle.plan.specs.declared.journal.Steps.TheVariants.{One, AtMost}
 use Rattle.plan.specs.declared.journal.Answer.{Answer}
 use Rattle.plan.specs.declared.journal.Answer.TheVariants as answer
 
@@ -28,11 +26,6 @@ Recorded (call.Trays xs) a e =
 Recorded (call.Cut ls ss) a e =
     (r : event.Answer) × (ls' : Vec ℕ Global) × (ss' : Vec ℕ Global) × (a ≡ answer.Cut r ls' ss')
     × (e ≡ event.told_cut (vec_items ls) (vec_items ss) r (vec_items ls') (vec_items ss'))
-
--- the call that asks for a step, or for a run
-abbrev pub asked_for : Steps → Call
-asked_for One = call.Step
-asked_for (AtMost b) = call.Run b
 
 -- the calls were answered one by one, which are the events, the oldest first
 abbrev pub Journal : List Call → List Answer → List Event → Type 0

@@ -2,7 +2,7 @@
 ghost use Rattle.std.specs.Prelude.{◌≡◌, IfOk, OnErr};
 ghost use Rattle.calls.specs.Events.{Event};
 ghost use Rattle.plan.specs.Plans.{Meets};
-ghost use Rattle.plan.specs.Journal.{Recorded, asked_for, Replays, Answered};
+ghost use Rattle.plan.specs.Journal.{Recorded, Replays, Answered};
 
 use crate::plan::Plan;
 use calls::Unfit;
@@ -22,13 +22,6 @@ pub enum Call {
     Cut(Vec<u8>, Vec<u8>),
 }
 
-// How many steps are asked for.
-#[derive(Clone, Copy)]
-enum Steps {
-    One,
-    AtMost(u64),
-}
-
 // What a call answered; a reading comes with its buffers.
 #[derive(Drop)]
 pub enum Answer {
@@ -43,33 +36,19 @@ pub enum Answer {
 
 impl<P: Plant> Plan<P> {
     // Reads the trays into a buffer.
-    fn read_trays(&self, buffer: Vec<u32>) -> Answer
+    fn read_trays(&self, mut buffer: Vec<u32>) -> Answer
         ensures { (e : Event) × Recorded (Call.Trays buffer) result e × Meets P.meaning self.now e self.now }
     {
-        let mut out = buffer;
-        let read = self.trays(out.as_mut_slice());
-        Answer::Trays(read, out)
+        let read = self.trays(buffer.as_mut_slice());
+        Answer::Trays(read, buffer)
     }
 
     // Reads the cut into buffers.
-    fn read_cut(&self, for_lanes: Vec<u8>, for_stations: Vec<u8>) -> Answer
-        ensures { (e : Event) × Recorded (Call.Cut for_lanes for_stations) result e × Meets P.meaning self.now e self.now }
+    fn read_cut(&self, mut lanes: Vec<u8>, mut stations: Vec<u8>) -> Answer
+        ensures { (e : Event) × Recorded (Call.Cut lanes stations) result e × Meets P.meaning self.now e self.now }
     {
-        let mut lanes = for_lanes;
-        let mut stations = for_stations;
         let read = self.cut(lanes.as_mut_slice(), stations.as_mut_slice());
         Answer::Cut(read, lanes, stations)
-    }
-
-    // A step or a run; a finished plan is not searched again.
-    fn advance(&mut self, steps: &Steps) -> Answer
-        ensures { (e : Event) × Recorded (asked_for steps.now) result e × Meets P.meaning self.old e self.new }
-    {
-        match (self.planner.is_finished(), steps) {
-            (true, Steps::One) => Answer::Stepped(None),
-            (false, Steps::One) => Answer::Stepped(self.step()),
-            (_, Steps::AtMost(budget)) => Answer::Ran(self.run(*budget)),
-        }
     }
 
     // Any call.
@@ -78,8 +57,8 @@ impl<P: Plant> Plan<P> {
     {
         match call {
             Call::Load(given) => Answer::Loaded(self.load(given.as_slice())),
-            Call::Step => self.advance(&Steps::One),
-            Call::Run(budget) => self.advance(&Steps::AtMost(budget)),
+            Call::Step => Answer::Stepped(self.step()),
+            Call::Run(budget) => Answer::Ran(self.run(budget)),
             Call::Total => Answer::Total(self.total()),
             Call::Moves => Answer::Moves(self.moves()),
             Call::Trays(buffer) => self.read_trays(buffer),
@@ -93,8 +72,7 @@ impl<P: Plant> Plan<P> {
         ensures same { OnErr result (self.new ≡ self.old) }
     {
         let mut told = Vec::with_capacity(heap, calls.len())?;
-        let mut left = calls.into_iter();
-        while let Some(call) = left.next() {
+        for call in calls {
             told.push_reserved(self.call(call));
         }
         Ok(told)

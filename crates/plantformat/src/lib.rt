@@ -124,20 +124,25 @@ impl From<LimitFault> for FloorFault {
     }
 }
 
+// A fault of the framing as it is told.
+impl From<FramingFault> for Refusal {
+    ghost from_gives = { λ fault refusal. refusal ≡ told (Record (Framing fault)) };
+
+    fn from(fault: FramingFault) -> Refusal {
+        match fault {
+            FramingFault::Length { at } => Refusal::new(Reason::Framing, at),
+            FramingFault::Kind { at } => Refusal::new(Reason::Kind, at),
+        }
+    }
+}
+
 // A fault as it is told: number, layer, place and law.
 impl From<FloorFault> for Refusal {
     ghost from_gives = { λ fault refusal. refusal ≡ told fault };
 
     fn from(fault: FloorFault) -> Refusal {
         match fault {
-            FloorFault::Record(RecordFault::Framing(FramingFault::Length { at })) => Refusal::new(
-                Reason::Framing,
-                at,
-            ),
-            FloorFault::Record(RecordFault::Framing(FramingFault::Kind { at })) => Refusal::new(
-                Reason::Kind,
-                at,
-            ),
+            FloorFault::Record(RecordFault::Framing(fault)) => Refusal::from(fault),
             FloorFault::Record(RecordFault::Order { at }) => Refusal::new(Reason::Order, at),
             FloorFault::Record(RecordFault::Size { at }) => Refusal::new(Reason::Size, at),
             FloorFault::Record(RecordFault::Range { at }) => Refusal::new(Reason::Range, at),

@@ -1,66 +1,40 @@
 -- Accepted sheets are the encodings of settings that may be set.
-use Rattle.std.proofs.Common.{◌≡◌, ℕ, zero, suc, ◌+◌, ◌-◌, ◌≤◌, Bool, true, false, cond, ◌||◌, eqb, ltb, leb, List, [], ◌∷◌, ◌++◌, length, take, drop, Ok, Err, Result, sym, refl, ap, ◌∙◌, subst, arith}
+use Rattle.std.proofs.Common.{◌≡◌, ℕ, zero, suc, ◌+◌, ◌-◌, ◌≤◌, Bool, true, false, cond, eqb, ltb, List, [], ◌∷◌, ◌++◌, length, take, drop, Ok, Err, Result, sym, refl, ap, ◌∙◌, subst, arith}
 use Rattle.std.specs.List.{AllByRecursion}
 use Rattle.std.proofs.lemmas.Bool.Decides.{nat_tests}
 use Rattle.std.proofs.lemmas.List.{length-take, length-drop, length-append, get_or-take, get_or_append_left, take-append-drop, drop-take, drop-append-le, take_at, drop_at, nil_from_length}
-use Rattle.std.proofs.lemmas.Bool.{eqb-true, lt-ltb, le-leb, ltb-false, le-ltb, or_parts, or_from}
+use Rattle.std.proofs.lemmas.Bool.{eqb-true, ltb-false, le-ltb}
 use Rattle.plant.specs.declared.refusals.Refusal.{Refusal}
-use Rattle.plant.specs.declared.refusals.Reason.TheVariants as reason
-use Rattle.floor.specs.Numbers.{top_cap}
-use Rattle.floor.specs.Floor.{Floor, sides}
+use Rattle.floor.specs.Floor.{Floor}
 use Rattle.plantformat.specs.Bytes.{word}
 use Rattle.plantformat.specs.Encoding.{Row}
 use Rattle.plantformat.specs.Judge.{onward, cut_short}
 use Rattle.plantformat.proofs.Verdicts.{ok_same, onward_ok, unless_ok, unless_passed}
-use Rattle.piles.specs.Settings.{can_close, pile_refusal}
 use Rattle.sheets.specs.declared.reading.Setting.{Setting}
 use Rattle.sheets.specs.declared.reading.Setting.TheVariants.{Close, Lower}
-use Rattle.sheets.specs.Sheet.{most_sheet_bytes, body_read, placed_at, setting_judged, setting_read, next_judged, before, sheet_read}
+use Rattle.sheets.specs.Sheet.{most_sheet_bytes, body_read, setting_judged, setting_read, next_judged, before, sheet_read}
 use Rattle.sheets.specs.Promise.{SettingBytes, Allowed, AcceptedSheetsEncode, SheetsAreAccepted}
 use Rattle.sheets.proofs.Bytes.{Says, body_says, body_said, bytes_say, bytes_said}
 use Rattle.sheets.proofs.Walks.{read_none, read_more}
 
 -- ---- what may be set
 
-one_test : (at : ℕ) (b : Bool) (x : Refusal) {u : Unit {0}} → placed_at at (cond b (Ok tt) (Err x)) ≡ Ok u → b ≡ true
-one_test at true x e = refl
-one_test at false x e = let z : ◌≡◌ {A = ℕ} 0 1 = cc in absurd (omega arith)
-
-two_tests : (at : ℕ) (a b : Bool) (x y : Refusal) {u : Unit {0}} → placed_at at (cond a (cond b (Ok tt) (Err x)) (Err y)) ≡ Ok u → (a ≡ true) × (b ≡ true)
-two_tests at true true x y e = (refl, refl)
-two_tests at true false x y e = let z : ◌≡◌ {A = ℕ} 0 1 = cc in absurd (omega arith)
-two_tests at false b x y e = let z : ◌≡◌ {A = ℕ} 0 1 = cc in absurd (omega arith)
-
 module _ (F : Floor) (at : ℕ) where
   judged_allowed : (t : Setting) {u : Unit {0}} → setting_judged F at t ≡ Ok u → Allowed F t
-  judged_allowed (Close s p) e =
-      let a = one_test at (can_close F s p) (pile_refusal reason.OffFloor) e in
-      (grind (arith, nat_tests), grind (arith, nat_tests))
-  judged_allowed (Lower s c) e =
-      let a = two_tests at (ltb s (sides F)) (leb c top_cap) (pile_refusal reason.Ceiling) (pile_refusal reason.OffFloor) e in
-      let b = a.0 in
-      let d = a.1 in
-      (grind (arith, nat_tests), grind (arith, nat_tests))
+  judged_allowed (Close s p) e = (grind (arith, nat_tests), grind (arith, nat_tests))
+  judged_allowed (Lower s c) e = (grind (arith, nat_tests), grind (arith, nat_tests))
 
   allowed_judged : (t : Setting) → Allowed F t → setting_judged F at t ≡ Ok tt
-  allowed_judged (Close s p) (a, b) =
-      let on : can_close F s p ≡ true = grind (arith, nat_tests) in
-      ap (λ c. placed_at at (cond c (Ok tt) (Err (pile_refusal reason.OffFloor)))) on
-  allowed_judged (Lower s c) (a, b) =
-      ap (λ x. placed_at at (cond x (cond (leb c top_cap) (Ok tt) (Err (pile_refusal reason.Ceiling))) (Err (pile_refusal reason.OffFloor))))
-      (lt-ltb s (sides F) a)
-      ∙ ap (λ x. placed_at at (cond x (Ok tt) (Err (pile_refusal reason.Ceiling)))) (le-leb c top_cap b)
+  allowed_judged (Close s p) (a, b) = grind (arith, nat_tests)
+  allowed_judged (Lower s c) (a, b) = grind (arith, nat_tests)
 
 -- ---- one record at the front of the bytes
 
 whole : (bs : List ℕ) → cut_short bs ≡ false → (4 ≤ length bs) × (4 ≤ word bs 0) × (word bs 0 ≤ length bs)
-whole bs e =
-    let a = or_parts (ltb (length bs) 4) (ltb (word bs 0) 4 || ltb (length bs) (word bs 0)) e in
-    let b = or_parts (ltb (word bs 0) 4) (ltb (length bs) (word bs 0)) a.1 in
-    (ltb-false _ _ a.0, ltb-false _ _ b.0, ltb-false _ _ b.1)
+whole bs e = (grind (arith, nat_tests), grind (arith, nat_tests), grind (arith, nat_tests))
 
 not_cut : (bs : List ℕ) → 4 ≤ length bs → 4 ≤ word bs 0 → word bs 0 ≤ length bs → cut_short bs ≡ false
-not_cut bs a b c = or_from _ _ (le-ltb _ _ a) (or_from _ _ (le-ltb _ _ b) (le-ltb _ _ c))
+not_cut bs a b c = grind (arith, nat_tests)
 
 -- the first n bytes are a record if their length says so
 front_says : (bs : List ℕ) (n : ℕ) (t : Setting) → word bs 0 ≡ n → 4 ≤ n → n ≤ length bs → Says (word bs 2) (take (n - 4) (drop 4 bs)) t
@@ -126,7 +100,7 @@ module _ (F : Floor) (at : ℕ) where
 
 before_ok : (t : Setting) (r : Result (List Setting) Refusal) {ts : List Setting} → before t r ≡ Ok ts → (us : List Setting) × (r ≡ Ok us) × (t ∷ us ≡ ts)
 before_ok t (Ok us) e = (us, refl, ok_same {E = Refusal} e)
-before_ok t (Err x) e = let z : ◌≡◌ {A = ℕ} 0 1 = cc in absurd (omega arith)
+before_ok t (Err x) e = cc
 
 front_long : (t : Setting) (front : List ℕ) → SettingBytes t front → 4 ≤ length front
 front_long t front r = (bytes_said front t r).0

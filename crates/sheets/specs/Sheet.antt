@@ -1,38 +1,45 @@
 -- How a sheet is judged: record by record from the front, the first fault decides; and what an accepted sheet sets.
-use Rattle.std.specs.Prelude.{◌≡◌, ℕ, zero, suc, ◌-◌, cond, not, List, [], ◌∷◌, length, take, drop, Ok, Err, Result, ◌==◌, nat_lt}
-use Rattle.plant.specs.Refusals.{refusal, layer_of}
-use Rattle.plant.specs.declared.refusals.Reason.{Reason}
+use Rattle.std.specs.Prelude.{◌≡◌, ℕ, zero, suc, ◌-◌, cond, not, List, [], ◌∷◌, length, take, drop, Ok, Err, Result, ◌==◌, ◌≢◌, nat_lt, MatchResult}
+use Rattle.plant.specs.Refusals.{refused}
 use Rattle.plant.specs.declared.refusals.Reason.TheVariants as reason
 use Rattle.plant.specs.declared.refusals.Refusal.{Refusal}
 use Rattle.floor.specs.Floor.{Floor}
+use Rattle.plantformat.specs.declared.UnlistedKind.{UnlistedKind}
 use Rattle.plantformat.specs.Bytes.{word, long}
 use Rattle.plantformat.specs.Judge.{onward, unless, cut_short}
 use Rattle.piles.specs.Settings.{close_judged, ceiling_judged, closed_after, ceilings_after}
+use Rattle.sheets.specs.declared.applying.Covers.{Covers}
 use Rattle.sheets.specs.declared.reading.Setting.{Setting}
 use Rattle.sheets.specs.declared.reading.Setting.TheVariants.{Close, Lower}
-use Rattle.sheets.specs.declared.reading.Next.{Next}
+use Rattle.sheets.specs.declared.reading.SettingKind.{SettingKind}
+use Rattle.sheets.specs.declared.reading.SettingKind.TheVariants as kind
 
 -- a longer sheet is refused before anything else
 abbrev pub most_sheet_bytes : ℕ
 most_sheet_bytes = 4096
 
--- a refusal of the record at a place: the layer goes by the reason, and no law is named
-abbrev pub sheet_refusal : Reason → ℕ → Refusal
-sheet_refusal r at = refusal r (layer_of r) at 0
-
 -- ---- one record
+
+-- the number of each kind: 20 closes a position of a side, 21 gives a side a ceiling
+abbrev pub kind_number : SettingKind → ℕ
+kind_number kind.Close = 20
+kind_number kind.Lower = 21
+
+-- the result is the kind with this number, or an error with a number that no kind has
+abbrev pub KindOf : ℕ → Result SettingKind UnlistedKind → Type 0
+KindOf number r = MatchResult r (λ k. number ≡ kind_number k) (λ e. (e.0 ≡ number) × (number ≢ 20) × (number ≢ 21))
 
 -- a body by the number of its kind: 20 closes a position of a side, 21 gives a side a ceiling
 abbrev pub body_read : ℕ → ℕ → List ℕ → Result Setting Refusal
 body_read at number b =
-    cond (number == 20) (unless (not (length b == 4)) (sheet_refusal reason.Size at) (Ok (Close (word b 0) (word b 2))))
-    (cond (number == 21) (unless (not (length b == 6)) (sheet_refusal reason.Size at) (Ok (Lower (word b 0) (long b 2))))
-    (Err (sheet_refusal reason.Kind at)))
+    cond (number == 20) (unless (not (length b == 4)) (refused reason.Size at) (Ok (Close (word b 0) (word b 2))))
+    (cond (number == 21) (unless (not (length b == 6)) (refused reason.Size at) (Ok (Lower (word b 0) (long b 2))))
+    (Err (refused reason.Kind at)))
 
 -- what a pile answers to a setting, at the place of its record
 abbrev pub placed_at : ℕ → Result (Unit {0}) Refusal → Result (Unit {0}) Refusal
 placed_at at (Ok _) = Ok tt
-placed_at at (Err x) = Err (sheet_refusal x.reason at)
+placed_at at (Err x) = Err (refused x.reason at)
 
 -- a setting is judged as the pile judges it, at the place of its record
 abbrev pub setting_judged : Floor → ℕ → Setting → Result (Unit {0}) Refusal
@@ -42,17 +49,12 @@ setting_judged F at (Lower s c) = placed_at at (ceiling_judged F s c)
 -- the setting of the first record of bs, which lies at a place of the sheet, and the bytes after it
 abbrev pub setting_read : ℕ → List ℕ → Result (Setting × List ℕ) Refusal
 setting_read at bs =
-    unless (cut_short bs) (sheet_refusal reason.Framing at)
+    unless (cut_short bs) (refused reason.Framing at)
     (onward (λ e. e) (body_read at (word bs 2) (take (word bs 0 - 4) (drop 4 bs))) (λ t. Ok (t, drop (word bs 0) bs)))
 
 -- the same, if it may be set on the floor
 abbrev pub next_judged : Floor → ℕ → List ℕ → Result (Setting × List ℕ) Refusal
 next_judged F at bs = onward (λ e. e) (setting_read at bs) (λ p. onward (λ e. e) (setting_judged F at p.0) (λ _. Ok p))
-
--- what the reader hands on, as settings and bytes
-abbrev pub next_shown : Result Next Refusal → Result (Setting × List ℕ) Refusal
-next_shown (Ok n) = Ok (n.setting, n.rest.now)
-next_shown (Err e) = Err e
 
 -- ---- a whole sheet
 
@@ -70,12 +72,7 @@ sheet_read (suc fuel) total F bs =
 
 -- the settings of a sheet in their order, or its first fault
 abbrev pub sheet_judged : Floor → List ℕ → Result (List Setting) Refusal
-sheet_judged F bs = unless (nat_lt most_sheet_bytes (length bs)) (sheet_refusal reason.TooMany 0) (sheet_read (length bs) (length bs) F bs)
-
--- the verdict alone
-abbrev pub verdict : Result (List Setting) Refusal → Result (Unit {0}) Refusal
-verdict (Ok _) = Ok tt
-verdict (Err e) = Err e
+sheet_judged F bs = unless (nat_lt most_sheet_bytes (length bs)) (refused reason.TooMany 0) (sheet_read (length bs) (length bs) F bs)
 
 -- ---- what is set
 
@@ -87,6 +84,10 @@ pub record Settings : Type 0 where
 -- these closed positions and these ceilings
 abbrev pub settings : List ℕ → List ℕ → Settings
 settings closed ceilings = record { closed = closed; ceilings = ceilings }
+
+-- what the covers of a pile are set to
+abbrev pub settings_of : Covers → Settings
+settings_of c = settings c.closings.closed c.ceilings.ceilings
 
 -- one setting more
 abbrev pub setting_made : Floor → Setting → Settings → Settings

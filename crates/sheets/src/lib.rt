@@ -1,7 +1,8 @@
 // The day's sheet: closings and ceilings for one day, as records framed like those of a plant file.
 //
-// `apply_sheet` judges every record of a sheet from the front, and only then sets what the sheet says, in its order: a refused sheet
-// changes nothing. Its verdict and what it sets are those of the definition `sheet_judged`.
+// `apply_sheet` sets a copy of a pile's closings and ceilings to what the records of a sheet say, from the front, and puts the copy in
+// their place where no record is refused: a refused sheet changes nothing. Its verdict and what it sets are those of the definition
+// `sheet_judged`.
 #![tactic(auto)]
 
 ghost use Rattle.sheets.specs.Promise.{AcceptedSheetsEncode, SheetsAreAccepted};

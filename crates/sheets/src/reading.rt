@@ -1,14 +1,15 @@
 // The records of a sheet, one by one.
 ghost use Rattle.std.specs.Prelude.{◌≡◌};
-ghost use Rattle.sheets.specs.Sheet.{sheet_refusal, body_read, setting_read, setting_judged, next_judged, next_shown};
+ghost use Rattle.framing.specs.Frames.{shown};
+ghost use Rattle.sheets.specs.Sheet.{kind_number, KindOf, body_read, setting_read};
 
-use framing::cut_record;
+use framing::{Parsed, first_frame};
 use numerals::{long_at, word_at};
-use piles::{check_ceiling, check_closing};
-use plant::{Plant, Reason, Refusal};
+use plant::{Reason, Refusal};
+use plantformat::UnlistedKind;
 
 // What a record of a sheet says.
-#[derive(Clone, Copy)]
+#[derive(Clone, Copy, Debug, PartialEq, Eq)]
 pub enum Setting {
     // A position of a side is closed.
     Close { side: usize, position: usize },
@@ -16,86 +17,53 @@ pub enum Setting {
     Lower { side: usize, ceiling: u32 },
 }
 
-// A setting, and the bytes after its record.
-#[derive(Clone, Copy)]
-pub(crate) struct Next<'a> {
-    pub(crate) setting: Setting,
-    pub(crate) rest: &'a [u8],
+// The kinds of record that a sheet may hold.
+#[derive(Clone, Copy, Debug, PartialEq, Eq)]
+pub(crate) enum SettingKind {
+    Close,
+    Lower,
 }
 
-// A refusal of the record at a place.
-pub(crate) fn refused(reason: Reason, at: usize) -> Refusal
-    ensures { result ≡ sheet_refusal reason at }
-{
-    Refusal {
-        reason,
-        layer: reason.layer(),
-        place: at,
-        law: 0,
+// The kind with a number, if it is listed.
+impl TryFrom<u16> for SettingKind {
+    type Error = UnlistedKind;
+
+    ghost try_from_gives = { KindOf };
+
+    fn try_from(number: u16) -> Result<SettingKind, UnlistedKind> {
+        match number {
+            20 => Ok(SettingKind::Close),
+            21 => Ok(SettingKind::Lower),
+            _ => Err(UnlistedKind(number)),
+        }
     }
 }
 
-// The body of a record, by the number of its kind.
-fn read_body(number: u16, body: &[u8], at: usize) -> Result<Setting, Refusal>
-    ensures { result ≡ body_read at number body.now }
+// What a body says, by its kind. A body of another size is refused.
+fn read_body(kind: SettingKind, body: &[u8], at: usize) -> Result<Setting, Refusal>
+    ensures { result ≡ body_read at (kind_number kind) body.now }
 {
-    if number != 20 && number != 21 {
-        return Err(refused(Reason::Kind, at));
-    }
-    let size = if number == 20 { 4 } else { 6 };
-    if body.len() != size {
-        return Err(refused(Reason::Size, at));
-    }
-    let side = word_at(body, 0);
-    if number == 20 {
-        return Ok(Setting::Close {
-            side,
+    match (kind, body.len()) {
+        (SettingKind::Close, 4) => Ok(Setting::Close {
+            side: word_at(body, 0),
             position: word_at(body, 2),
-        });
-    }
-    Ok(Setting::Lower {
-        side,
-        ceiling: long_at(body, 2),
-    })
-}
-
-// Whether what a record says may be set over the plant. A refusal by the pile gets the place of the record.
-fn check_setting<P: Plant>(plant: &P, setting: Setting, at: usize) -> Result<(), Refusal>
-    ensures { result ≡ setting_judged (P.meaning plant.now).floor at setting }
-{
-    let verdict = match setting {
-        Setting::Close { side, position } => check_closing(plant, side, position),
-        Setting::Lower { side, ceiling } => check_ceiling(plant, side, ceiling),
-    };
-    match verdict {
-        Ok(()) => Ok(()),
-        Err(refusal) => Err(refused(refusal.reason, at)),
+        }),
+        (SettingKind::Lower, 6) => Ok(Setting::Lower {
+            side: word_at(body, 0),
+            ceiling: long_at(body, 2),
+        }),
+        _ => Err(Refusal::new(Reason::Size, at)),
     }
 }
 
-// The first record of `bytes`, which lies at the place `at` of the sheet.
-fn read_setting<'a>(bytes: &'a [u8], at: usize) -> Result<Next<'a>, Refusal>
-    ensures { next_shown result ≡ setting_read at bytes.now }
+// The setting of the first record of `bytes`, which lies at the place `at` of the sheet.
+pub(crate) fn first_setting<'a>(bytes: &'a [u8], at: usize) -> Result<Parsed<'a, Setting>, Refusal>
+    ensures { shown (λ setting. setting) result ≡ setting_read at bytes.now }
 {
-    let Ok(cut) = cut_record(bytes, at) else {
-        return Err(refused(Reason::Framing, at));
-    };
-    let setting = read_body(cut.kind, cut.body, at)?;
-    Ok(Next {
-        setting,
-        rest: cut.rest,
+    let frame = first_frame::<SettingKind>(bytes, at)?;
+    let value = read_body(frame.kind, frame.body, at)?;
+    Ok(Parsed {
+        value,
+        rest: frame.rest,
     })
-}
-
-// The first record of `bytes`, if it may be set over the plant.
-pub(crate) fn next_setting<'a, P: Plant>(
-    plant: &P,
-    bytes: &'a [u8],
-    at: usize,
-) -> Result<Next<'a>, Refusal>
-    ensures { next_shown result ≡ next_judged (P.meaning plant.now).floor at bytes.now }
-{
-    let next = read_setting(bytes, at)?;
-    check_setting(plant, next.setting, at)?;
-    Ok(next)
 }

@@ -1,42 +1,33 @@
--- The lanes from the last back to the stock, in reverse, are the path.
-use Rattle.std.proofs.Common.{◌≡◌, ◌++◌, map, reverse, vec_items, vec_len, sym, ap, ◌∙◌, arith}
-use Rattle.labelling.specs.Table.{mark, state_of}
-use Rattle.labels.specs.Labels.{signed_state, signed_by, mark_of, marks}
-use Rattle.labels.specs.declared.SignedLane.{SignedLane}
-use Rattle.labels.specs.Paths.{level_of, trail}
-use Rattle.labels.proofs.Marks.{marks_length, mark_read}
-use Rattle.labels.proofs.Rows.{trail_row, map_reversed}
-use Rattle.labels.proofs.Trails.{labelled_below}
+-- Each turn adds a lane, and goes to the one that it names.
+use Rattle.std.proofs.Common.{◌≡◌, ◌+◌, vec_items, vec_len, map, reverse, ap, ◌∙◌, arith}
+use Rattle.std.proofs.lemmas.List.{map_push}
+use Rattle.labelling.specs.Table.{mark, back}
+use Rattle.labelling.specs.Steps.{row}
+use Rattle.labels.specs.Labels.{signed_state, marks_in}
+use Rattle.labels.specs.Paths.{level_of}
+use Rattle.labels.proofs.Rows.{row_more, path_row, map_reversed}
+use Rattle.labels.proofs.Trails.{back_more, level_more}
 use Rattle.labels.proofs.LabelTable.read_back.Goals as goal
 
-pub index-requires : goal.index-requires
-index-requires c =
-    let t = vec_items c.args.self.now.labels in
-    let n = vec_len c.args.self.now.labels in
-    labelled_below (marks t) n c.args.last (marks_length t n (omega arith)) c.requires.labelled
-
-pub returns-in_default : goal.returns-in_default
-returns-in_default c =
-    let t = vec_items c.args.self.now.labels in
-    let n = vec_len c.args.self.now.labels in
-    let b = labelled_below (marks t) n c.args.last (marks_length t n (omega arith)) c.requires.labelled in
-    let q : level_of (mark (marks t) c.args.last) ≡ 0 = ap level_of (mark_read t c.args.last n _ c.index.ensures b (omega arith) ∙ ap mark_of c.in_default.is) in
-    absurd (omega (arith, c.requires.labelled))
-
-pub returns : goal.returns
-returns c =
-    let t = vec_items c.args.self.now.labels in
-    let n = vec_len c.args.self.now.labels in
-    let e = c.args.last in
-    let b = labelled_below (marks t) n e (marks_length t n (omega arith)) c.requires.labelled in
-    let q = mark_read t e n _ c.index.ensures b (omega arith) ∙ ap mark_of c.in-Some.is in
-    let r = c.signed_lane.result in
-    let x = signed_state (signed_by c.in-Some.label e) in
+pub loop-before-preserved : goal.loop-before-preserved
+loop-before-preserved c =
+    let t = marks_in c.args.self.now in
+    let k = vec_len c.loop-before.path in
+    let n : vec_len c.push_reserved.new.self ≡ k + 1 = omega arith in
+    let here = rw c.in-Some.is at c.loop-before.invariant.here in
+    let left = rw c.in-Some.is at c.loop-before.invariant.left in
+    let pushed = ap (map signed_state) c.push_reserved.ensures.items ∙ map_push signed_state (vec_items c.loop-before.path) c.in-Some.at in
+    let more = row_more (back c.args.last t) k in
     record {
-      states = ap (map signed_state) c.reverse.ensures.items ∙ map_reversed signed_state (vec_items c.walk_back.new.path)
-          ∙ ap reverse (c.walk_back.ensures.states
-          ∙ ap (λ l. map signed_state l ++ trail (level_of (mark (marks t) r.lane)) (marks t) (signed_state r)) c.clear.ensures.items
-          ∙ ap (λ (s : SignedLane). trail (level_of (mark (marks t) s.lane)) (marks t) (signed_state s)) c.signed_lane.ensures)
-          ∙ trail_row e (marks t) c.requires.falls x c.requires.labelled (sym (ap (state_of e) q));
+      states = cc;
+      here = back_more t c.in-Some.at c.name-before.result c.name-before.ensures c.args.last k _ n here;
+      left = level_more t c.in-Some.at c.name-before.result c.name-before.ensures c.requires.falls k _ _ n left.0 left.1;
       capacity = omega arith;
     }
+
+pub returns-clause-states : goal.returns-clause-states
+returns-clause-states c =
+    let t = marks_in c.args.self.now in
+    let left = rw c.in_default.is at c.loop-before.invariant.left in
+    ap (map signed_state) c.reverse.ensures.items ∙ map_reversed signed_state (vec_items c.loop-before.path) ∙ ap reverse c.loop-before.invariant.states
+    ∙ ap (λ n. reverse (row (back c.args.last t) n)) left ∙ path_row (level_of (mark t c.args.last)) c.args.last t

@@ -11,8 +11,8 @@ pub returns : goal.returns
 returns g c =
     let M = g.P.Plant.meaning in
     let p = c.args.self.now in
-    let lanes = c.args.for_lanes in
-    let stations = c.args.for_stations in
+    let lanes = c.args.lanes in
+    let stations = c.args.stations in
     let r = c.cut-read.result in
     let ls = c.cut-read.new.lanes in
     let ss = c.cut-read.new.stations in

@@ -1,8 +1,7 @@
 -- Each turn makes one call more.
-use Rattle.std.proofs.Common.{◌≡◌, [], ◌∷◌, ◌++◌, vec_items, sym, refl, ap, ◌∙◌, append_assoc, append-nil, arith}
+use Rattle.std.proofs.Common.{[], ◌∷◌, ◌++◌, vec_items, sym, ap, ◌∙◌, append_assoc, arith}
 use mathlib.Core.Path.{subst⁻¹}
 use Rattle.std.specs.Vec.Iter.{into_iter_items}
-use Rattle.std.proofs.lemmas.List.{nil_from_length}
 use Rattle.plan.specs.Journal.{Replays}
 use Rattle.plan.proofs.Replaying.{replays_none, replays_more}
 use Rattle.plan.proofs.plan.Plan.replay.Goals as goal
@@ -12,32 +11,30 @@ loop-call-init g c =
     let M = g.P.Plant.meaning in
     let p = c.args.self.now in
     let empty = c.in_ok-told.ensures in
-    (omega (arith, empty.len, empty.capacity, c.into_iter-left.ensures.len), ([], refl, subst⁻¹ (λ bs. Replays M p [] bs p) empty.items (replays_none M p)))
+    let left = c.into_iter-call-iterator.ensures.into_iter_gives in (
+      tt,
+      tt,
+      omega (arith, empty.len, empty.capacity, left.1, c.len.ensures),
+      ([], sym left.0, subst⁻¹ (λ bs. Replays M p [] bs p) empty.items (replays_none M p)),
+    )
 
 pub loop-call-preserved : goal.loop-call-preserved
 loop-call-preserved g c =
     let M = g.P.Plant.meaning in
     let p = c.args.self.now in
-    let inv = c.loop-call.invariant in
-    let cs = inv.1.0 in
+    let room = c.loop-call.invariant.2 in
+    let told = c.loop-call.invariant.3 in
+    let cs = told.0 in
     let x = c.in-Some.call in
+    let next = c.in-Some.ensures.steps in
     let rest = into_iter_items c.next.new.self in
-    let after = replays_more M p cs (vec_items c.loop-call.told) c.loop-call.self x c.call.result c.call.new.self inv.1.2 c.call.ensures in (
-      omega (arith, inv.0, c.in-Some.ensures.len, c.push_reserved.ensures),
+    let after = replays_more M p cs (vec_items c.loop-call.told) c.loop-call.self x c.call.result c.call.new.self told.2 c.call.ensures in (
+      tt,
+      tt,
+      omega (arith, room, next.1, c.push_reserved.ensures),
       (
         cs ++ x ∷ [],
-        inv.1.1 ∙ ap (λ ys. cs ++ ys) c.in-Some.ensures.items ∙ sym (append_assoc cs (x ∷ []) rest),
+        told.1 ∙ ap (λ ys. cs ++ ys) next.0 ∙ sym (append_assoc cs (x ∷ []) rest),
         subst⁻¹ (λ bs. Replays M p (cs ++ x ∷ []) bs c.call.new.self) c.push_reserved.ensures.items after,
       ),
     )
-
-pub returns : goal.returns
-returns g c =
-    let M = g.P.Plant.meaning in
-    let p = c.args.self.now in
-    let inv = c.loop-call.invariant in
-    let cs = inv.1.0 in
-    let none : into_iter_items c.loop-call.left ≡ [] =
-    nil_from_length (into_iter_items c.loop-call.left) (omega (arith, c.in_default.ensures.cases, c.loop-call.left.rest.ok)) in
-    let all : vec_items c.args.calls ≡ cs = sym c.into_iter-left.ensures.rest ∙ inv.1.1 ∙ ap (λ ys. cs ++ ys) none ∙ append-nil cs in
-    record { told = subst⁻¹ (λ xs. Replays M p xs (vec_items c.loop-call.told) c.loop-call.self) all inv.1.2; same = tt }

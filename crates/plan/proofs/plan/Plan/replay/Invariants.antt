@@ -7,9 +7,8 @@ use Rattle.plan.proofs.plan.Plan.replay.Given as goal
 
 abbrev pub invariant-loop-call : goal.invariant-loop-call
 invariant-loop-call g l =
-    (vec_len l.told + into_iter_len l.left ≤ vec_capacity l.told)
-    × ((cs : List Call) × (into_iter_items l.initial.left ≡ cs ++ into_iter_items l.left)
+    (goal.iterator-loop-call g).can_next l.call-iterator
+    × (goal.iterator-loop-call g).is_finite l.call-iterator
+    × (vec_len l.told + into_iter_len l.call-iterator ≤ vec_capacity l.told)
+    × ((cs : List Call) × (vec_items l.fn.calls ≡ cs ++ into_iter_items l.call-iterator)
     × Replays g.P.Plant.meaning l.initial.self cs (vec_items l.told) l.self)
-
-abbrev pub decreases-loop-call : goal.decreases-loop-call
-decreases-loop-call g l = into_iter_len l.left

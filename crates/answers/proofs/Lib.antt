@@ -1,3 +1,4 @@
-pub mod Lookups
+pub mod Sums
 pub mod Positions
 pub mod SameCaps
+pub mod Lookups

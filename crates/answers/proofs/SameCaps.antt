@@ -1,5 +1,5 @@
 -- The caps of a side depend on the own caps of its lanes alone; and the limit that is found for a side keeps the rules there.
-use Rattle.std.proofs.Common.{◌≡◌, ℕ, zero, suc, ◌-◌, ◌*◌, ◌<◌, ◌≤◌, true, cond, eqb, List, map, length, get_or, take, Some, None, vec_items, Option, refl, ap, ◌∙◌, arith, length-take, get_or-take}
+use Rattle.std.proofs.Common.{◌≡◌, ℕ, zero, suc, ◌<◌, true, cond, eqb, List, map, length, get_or, Some, None, vec_items, Option, refl, ap, ◌∙◌, arith}
 use Rattle.polymatroid.specs.Sets.{has}
 use Rattle.polymatroid.specs.Kinds.{plain, Groups, own, under, passed, depth, worth, grouped}
 use Rattle.polymatroid.proofs.Side.{load_same}
@@ -12,10 +12,7 @@ use Rattle.plantformat.proofs.Tests.{keeps_rules, limit_rules_keep}
 use Rattle.plantformat.proofs.Lawful.{found_rules}
 use Rattle.limits.specs.Told.{told}
 use Rattle.answers.specs.Content.{file_meaning}
-use Rattle.plantformat.specs.Numbers.{top_lane}
-use Rattle.answers.specs.Answers.{Lists, owns, Owns, limit_cap}
-use Rattle.answers.specs.declared.questions.SideLanes.{SideLanes}
-use Rattle.answers.proofs.Positions.{own_low}
+use Rattle.answers.specs.Answers.{owns, Owns, limit_cap}
 use Rattle.answers.specs.declared.file_plant.FilePlant.{FilePlant}
 
 module _ (k : ℕ) (w v : ℕ → ℕ) (same : (p : ℕ) → p < k → w p ≡ v p) (X : ℕ) where
@@ -61,23 +58,9 @@ found_keeps f s l e =
     (keeps_rules f.head (vec_items f.lanes) (map told (vec_items f.limits)) f.kept) (end_of s) (station_of s) l
     (ap (λ n. limit_of n (map told (vec_items f.limits))) (side_again s) ∙ e))
 
--- the front of a list of own caps, one for each lane of the side
-module _ (f : FilePlant) (on : SideLanes) (side_on : on.side < 2 * f.head.stations) (lists : Lists (file_meaning f).floor on) (xs : List ℕ)
-    (o : Owns f on xs) where
-  pub front_long : length (take (on.count - 0) xs) ≡ on.count
-  front_long = simp length-take (omega (arith, lists.few, o.long))
-
-  pub front_at : (p : ℕ) → p < on.count → get_or (take (on.count - 0) xs) p 0 ≡ owns f on.side p
-  front_at p l = let m : p < on.count - 0 = omega arith in rw get_or-take (o.each p l)
-
-  pub front_low : (p : ℕ) → p < length (take (on.count - 0) xs) → get_or (take (on.count - 0) xs) p 0 ≤ top_lane
-  front_low p l =
-      let m : p < on.count = omega (arith, front_long) in
-      omega (arith, front_at p m, own_low f on side_on lists p m)
-
-  pub front_cap : (l : Option Limit) (X : ℕ)
-      → cap_by (length (take (on.count - 0) xs)) (λ p. get_or (take (on.count - 0) xs) p 0) l X ≡ limit_cap f on.side l X
-  front_cap l X =
-      ap (λ k. cap_by k (λ p. get_or (take (on.count - 0) xs) p 0) l X) (front_long ∙ lists.all)
-      ∙ cap_by_same (width (file_meaning f).floor on.side) (λ p. get_or (take (on.count - 0) xs) p 0) (owns f on.side)
-      (λ p m. front_at p (omega (arith, lists.all))) X l
+-- a list of the own caps of the lanes of a side
+module _ (f : FilePlant) (s : ℕ) (xs : List ℕ) (o : Owns f s xs) where
+  pub owned_cap : (l : Option Limit) (X : ℕ) → cap_by (length xs) (λ p. get_or xs p 0) l X ≡ limit_cap f s l X
+  owned_cap l X =
+      ap (λ k. cap_by k (λ p. get_or xs p 0) l X) o.long
+      ∙ cap_by_same (width (file_meaning f).floor s) (λ p. get_or xs p 0) (owns f s) (λ p m. o.each p (omega (arith, o.long))) X l

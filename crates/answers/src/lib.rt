@@ -7,6 +7,7 @@
 
 mod file_plant;
 mod questions;
+mod side_lanes;
 
 pub use file_plant::FilePlant;
-pub use questions::SideLanes;
+pub use side_lanes::SideLanes;

@@ -1,24 +1,17 @@
 // The answers of a file plant.
-ghost use Rattle.std.specs.Prelude.{◌≡◌, ℕ, ◌*◌, ◌^◌, ◌<◌, ◌≤◌, map, None, ◌==◌};
+ghost use Rattle.std.specs.Prelude.{◌≡◌, ◌*◌, ◌<◌, ◌≤◌, map, MatchResult, ◌==◌};
 ghost use Rattle.plantformat.specs.Records.{lane_end, limit_of, side_of};
 ghost use Rattle.plantformat.proofs.Lawful.{kept_lawful};
 ghost use Rattle.answers.specs.Content.{file_meaning};
-ghost use Rattle.limits.specs.Told.{told, told_side};
-ghost use Rattle.answers.specs.Answers.{Lists, owns, Owns, limit_cap, limit_seen};
+ghost use Rattle.limits.specs.Told.{told};
+ghost use Rattle.answers.specs.Answers.{limit_seen};
 
 use crate::file_plant::FilePlant;
-use limits::{Limit, cap_of};
-use plant::{MOST_ON_SIDE, OffFloor, Plant};
+use crate::side_lanes::SideLanes;
+use arrayvec::ArrayVec;
+use limits::Limit;
+use plant::{OffFloor, Plant};
 use plantformat::Lane;
-use setcodes::contains;
-
-// The lanes of a side: their numbers by position, and how many there are.
-#[derive(Clone, Copy)]
-pub struct SideLanes {
-    pub side: usize,
-    pub numbers: [usize; MOST_ON_SIDE],
-    pub count: usize,
-}
 
 // The station at an end of a lane.
 fn lane_end(lane: Lane, entering: bool) -> usize
@@ -36,91 +29,44 @@ fn is_for(limit: Limit, side: usize) -> bool
 
 impl<'a> FilePlant<'a> {
     // The lanes of a side, in lane order.
-    pub fn lanes_on(&self, side: usize) -> SideLanes
+    pub fn lanes_on(&self, side: usize) -> SideLanes<'_, 'a>
         requires { side < 2 * self.now.head.stations }
+        ensures plant { result.plant.now ≡ self.now }
         ensures side { result.side ≡ side }
-        ensures lists { Lists (file_meaning self.now).floor result }
     {
         let station = side / 2;
         let entering = side % 2 == 1;
-        let mut on = SideLanes {
-            side,
-            numbers: [0; MOST_ON_SIDE],
-            count: 0,
-        };
-        for number in 0..self.lanes.len() {
-            if lane_end(self.lanes[number], entering) == station {
-                on.numbers[on.count] = number;
-                on.count += 1;
+        let mut lanes = ArrayVec::new();
+        for (number, lane) in self.lanes.iter().enumerate() {
+            if lane_end(*lane, entering) == station {
+                lanes.push(number);
             }
         }
-        on
+        SideLanes {
+            plant: self,
+            side,
+            lanes,
+        }
     }
 
     // The limit of a side, if it has one.
     pub fn limit_of(&self, side: usize) -> Option<Limit<'a>>
         ensures { limit_seen result ≡ limit_of side (map told self.now.limits.items) }
     {
-        for limit in self.limits.iter() {
-            if is_for(*limit, side) {
-                return Some(*limit);
-            }
+        self.limits
+            .iter()
+            .find(|limit| is_for(**limit, side))
+            .copied()
+    }
+
+    // The lanes of a side, or the refusal where the side is not on the floor.
+    fn side_asked(&self, side: usize) -> Result<SideLanes<'_, 'a>, OffFloor>
+        ensures { MatchResult result (λ on. (on.plant.now ≡ self.now) × (on.side ≡ side)) (λ _. 2 * self.now.head.stations ≤ side) }
+    {
+        if side / 2 >= self.head.stations {
+            return Err(OffFloor);
         }
-        None
-    }
-
-    // The own cap of the lane at a position of a side.
-    fn own_at(&self, on: SideLanes, position: usize) -> u32
-        requires floor { on.side < 2 * self.now.head.stations }
-        requires lists { Lists (file_meaning self.now).floor on }
-        requires there { position < on.count }
-        ensures value { result ≡ owns self.now on.side position }
-        ensures low { result ≤ 100000 }
-    {
-        self.lanes[on.numbers[position]].own
-    }
-
-    // The cap of a set of lanes of a side without a limit: the sum of the lanes' own caps.
-    fn plain_cap(&self, on: SideLanes, set: usize) -> u32
-        requires floor { on.side < 2 * self.now.head.stations }
-        requires lists { Lists (file_meaning self.now).floor on }
-        ensures { result ≡ limit_cap self.now on.side None set }
-    {
-        let mut sum = 0;
-        for position in 0..on.count {
-            if contains(set, position) {
-                sum += self.own_at(on, position);
-            }
-        }
-        sum
-    }
-
-    // The cap of a set of lanes of a side, by its limit.
-    fn cap_on(&self, on: SideLanes, set: usize) -> u32
-        requires floor { on.side < 2 * self.now.head.stations }
-        requires lists { Lists (file_meaning self.now).floor on }
-        requires there { set < 2 ^ on.count }
-        ensures { result ≡ limit_cap self.now on.side (limit_of on.side (map told self.now.limits.items)) set }
-    {
-        let Some(limit) = self.limit_of(on.side) else {
-            return self.plain_cap(on, set);
-        };
-        let own = self.own_caps(on);
-        let width = on.count;
-        cap_of(limit, &own[0..width], set)
-    }
-
-    // The own caps of the lanes of a side, by position.
-    fn own_caps(&self, on: SideLanes) -> [u32; MOST_ON_SIDE]
-        requires floor { on.side < 2 * self.now.head.stations }
-        requires lists { Lists (file_meaning self.now).floor on }
-        ensures { Owns self.now on result }
-    {
-        let mut own = [0; MOST_ON_SIDE];
-        for position in 0..on.count {
-            own[position] = self.own_at(on, position);
-        }
-        own
+        Ok(self.lanes_on(side))
     }
 }
 
@@ -146,38 +92,24 @@ impl Plant for FilePlant<'_> {
     }
 
     fn ends(&self, lane: usize) -> Result<(usize, usize), OffFloor> {
-        if lane >= self.lanes.len() {
-            return Err(OffFloor);
-        }
-        Ok((self.lanes[lane].from, self.lanes[lane].to))
+        let lane = self.lanes.get(lane).ok_or(OffFloor)?;
+        Ok((lane.from, lane.to))
     }
 
     fn width(&self, side: usize) -> Result<usize, OffFloor> {
-        if side / 2 >= self.head.stations {
-            return Err(OffFloor);
-        }
-        Ok(self.lanes_on(side).count)
+        Ok(self.side_asked(side)?.width())
     }
 
     fn lane_at(&self, side: usize, position: usize) -> Result<usize, OffFloor> {
-        if side / 2 >= self.head.stations {
-            return Err(OffFloor);
-        }
-        let on = self.lanes_on(side);
-        if position >= on.count {
-            return Err(OffFloor);
-        }
-        Ok(on.numbers[position])
+        let on = self.side_asked(side)?;
+        on.lanes.get(position).copied().ok_or(OffFloor)
     }
 
     fn cap(&self, side: usize, set: usize) -> Result<u32, OffFloor> {
-        if side / 2 >= self.head.stations {
+        let on = self.side_asked(side)?;
+        if set >= 1 << on.width() {
             return Err(OffFloor);
         }
-        let on = self.lanes_on(side);
-        if set >= 1 << on.count {
-            return Err(OffFloor);
-        }
-        Ok(self.cap_on(on, set))
+        Ok(on.cap(set))
     }
 }

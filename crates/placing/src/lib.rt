@@ -20,6 +20,7 @@ use plantformat::{FloorFault, Lane};
 use records::Record;
 
 // A lane has two different ends, and does not enter the stock or leave the despatch.
+#[tactic(auto, unfolding(plantformat::specs::Rules::lane_leads))]
 fn leads(plant: &FilePlant, lane: Lane) -> bool
     ensures { result ≡ lane_leads plant.now.head lane }
 {
@@ -31,24 +32,23 @@ fn is_full(plant: &FilePlant, side: usize) -> bool
     requires { side < 2 * plant.now.head.stations }
     ensures { result ≡ nat_le most_on_side (width_of (content plant.now) side) }
 {
-    plant.lanes_on(side).count >= MOST_ON_SIDE
+    plant.lanes_on(side).width() >= MOST_ON_SIDE
 }
 
 // One lane more would be too many, on the floor or on one of its two sides.
+#[tactic(auto, using(crate::proofs::Crowds::stations_few), unfolding(plantformat::specs::Judge::crowded))]
 fn is_crowded(plant: &FilePlant, lane: Lane) -> bool
     requires from { lane.from < plant.now.head.stations }
     requires to { lane.to < plant.now.head.stations }
     ensures { result ≡ crowded plant.now.head plant.now.lanes.items lane }
 {
-    let out_side = is_full(plant, 2 * lane.from);
-    let in_side = is_full(plant, 2 * lane.to + 1);
-    if plant.lanes.len() >= MOST_LANES || out_side {
-        return true;
-    }
-    in_side
+    plant.lanes.len() >= MOST_LANES
+        || is_full(plant, 2 * lane.from)
+        || is_full(plant, 2 * lane.to + 1)
 }
 
 // Whether a lane may be added.
+#[tactic(auto, unfolding(plantformat::specs::Rules::lane_ranged))]
 fn lane_fits(plant: &FilePlant, lane: Lane, at: usize) -> Result<(), FloorFault>
     requires { lane_ranged plant.now.head.stations lane ≡ true }
     ensures { result ≡ allowed (lane_placed (content plant.now) at lane) }
@@ -63,6 +63,7 @@ fn lane_fits(plant: &FilePlant, lane: Lane, at: usize) -> Result<(), FloorFault>
 }
 
 // Whether a limit may be added.
+#[tactic(auto, using(crate::proofs::Limited::limit_placed_is))]
 fn limit_fits<'a>(plant: &FilePlant<'a>, limit: Limit<'a>, at: usize) -> Result<(), FloorFault>
     requires { told_side limit < 2 * plant.now.head.stations }
     ensures { result ≡ allowed (placed (content plant.now) at (limit_part limit.entry)) }
@@ -71,7 +72,7 @@ fn limit_fits<'a>(plant: &FilePlant<'a>, limit: Limit<'a>, at: usize) -> Result<
     if plant.limit_of(side).is_some() {
         return Err(FloorFault::SecondLimit { at });
     }
-    check_limit(limit, plant.lanes_on(side).count, at)
+    check_limit(limit, plant.lanes_on(side).width(), at)
 }
 
 // Whether a record may be added, which lies at the place `at` of the file.

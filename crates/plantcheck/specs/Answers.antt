@@ -1,16 +1,28 @@
 -- What is printed of a file, by the verdict on it.
-use Rattle.std.specs.Prelude.{◌≡◌, Ok, Err, vec_items, codes, Result}
+use Rattle.std.specs.Prelude.{◌≡◌, ℕ, List, Ok, Err, string_bytes, codes, Result, String}
+use Rattle.std.specs.declared.alloc.Global.{Global}
 use Rattle.plantformat.specs.declared.FloorFault.{FloorFault}
 use Rattle.plantformat.specs.Faults.{told}
 use Rattle.plantformat.specs.Records.{meaning_of}
 use Rattle.plantformat.specs.Judge.{Draft}
 use Rattle.listing.specs.Lines.{plant_lines, refusal_line}
-use Rattle.console.specs.declared.Answer.{Answer}
-use Rattle.console.specs.declared.Answer.TheVariants.{Listing, Refusal}
+use Rattle.console.specs.declared.Failure.{Failure}
+use Rattle.console.specs.declared.Failure.TheVariants.{Refused, NoMemory, Io, Sheet}
 
--- the lines of the plant that an accepted file means, or the line that tells the first fault of a refused one
-abbrev pub Answers : Result Draft FloorFault → Answer → Type 0
-Answers (Ok d) (Listing lines) = vec_items lines ≡ plant_lines (meaning_of d.head d.lanes d.limits)
-Answers (Ok d) (Refusal line) = ⊥
-Answers (Err f) (Listing lines) = ⊥
-Answers (Err f) (Refusal line) = vec_items line ≡ refusal_line (codes "file") (told f)
+-- these are the lines of the plant that an accepted file means
+abbrev pub Listed : Result Draft FloorFault → List ℕ → Type 0
+Listed (Ok d) lines = lines ≡ plant_lines (meaning_of d.head d.lanes d.limits)
+Listed (Err f) lines = ⊥
+
+-- this is the line that tells the first fault of a refused file
+abbrev pub Told : Result Draft FloorFault → List ℕ → Type 0
+Told (Ok d) line = ⊥
+Told (Err f) line = line ≡ refusal_line (codes "file") (told f)
+
+-- the lines of an accepted file, or the line of a refused one, or neither, and that for want of memory alone
+abbrev pub Answers : Result Draft FloorFault → Result (String Global) Failure → Type 0
+Answers j (Ok lines) = Listed j (string_bytes lines)
+Answers j (Err (Refused line)) = Told j (string_bytes line)
+Answers j (Err NoMemory) = Unit {0}
+Answers j (Err (Io e)) = ⊥
+Answers j (Err (Sheet e)) = ⊥

@@ -3,32 +3,33 @@
 // of memory, are told in one line on standard error, with status 1.
 #![tactic(auto)]
 
-ghost use Rattle.std.specs.Prelude.{IfOk};
 ghost use Rattle.plantformat.specs.Judge.{judge};
 ghost use Rattle.plantcheck.specs.Answers.{Answers};
 
-use console::{Answer, Failure, print_answer, read_file, status_of, tell_failure};
+use console::{Failure, print_answer, read_file, status_of, tell_failure};
 use listing::{show_plant, show_refusal};
-use plantfile::{Verdict, read_plant};
+use plantfile::{ReadError, read_plant};
 use plantformat::MOST_BYTES;
-use std::alloc::{AllocError, Global};
+use std::alloc::Global;
 use std::process::ExitCode;
 
 // What is to be printed of a file.
-fn answer_to(heap: Global, file: &[u8]) -> Result<Answer, AllocError>
-    ensures { IfOk result (λ a. Answers (judge file.now) a) }
+fn answer_to(heap: Global, file: &[u8]) -> Result<String, Failure>
+    ensures { Answers (judge file.now) result }
 {
     let (plant, verdict) = read_plant(heap, file);
     match verdict {
-        Verdict::Accepted => Ok(Answer::Listing(show_plant(heap, &plant)?)),
-        Verdict::Refused(refusal) => Ok(Answer::Refusal(show_refusal(heap, b"file", refusal)?)),
-        Verdict::NoMemory => Err(AllocError),
+        Ok(()) => Ok(show_plant(heap, &plant)?),
+        Err(ReadError::Refused(refusal)) => {
+            Err(Failure::Refused(show_refusal(heap, "file", refusal)?))
+        }
+        Err(ReadError::NoMemory) => Err(Failure::NoMemory),
     }
 }
 
 fn check_plant(rt: &HostRuntime) -> Result<(), Failure> {
     let file = read_file(rt, MOST_BYTES as u32)?;
-    print_answer(rt, answer_to(rt.alloc(), file.as_slice())?)
+    print_answer(rt, answer_to(rt.alloc(), file.as_slice()))
 }
 
 fn main(rt: HostRuntime) -> ExitCode {

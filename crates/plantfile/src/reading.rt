@@ -13,7 +13,7 @@ use framing::Parsed;
 use limits::Limit;
 use placing::fits;
 use plant::Refusal;
-use plantformat::{FloorFault, Head, MOST_BYTES, tell};
+use plantformat::{FloorFault, Head, MOST_BYTES};
 use records::{Record, Scope, first_record, next_record};
 use std::alloc::{AllocFailed, Global};
 
@@ -121,35 +121,33 @@ fn open_file<'a>(file: &'a [u8]) -> Result<Parsed<'a, Head>, FloorFault>
     Ok(first)
 }
 
-// What becomes of a file.
+// Why there is no plant of a file.
 #[derive(Clone, Copy, Debug, PartialEq, Eq)]
-pub enum Verdict {
-    // The file is a plant file.
-    Accepted,
+pub enum ReadError {
     // The file is no plant file, for this reason.
     Refused(Refusal),
     // There was not enough memory to read the file.
     NoMemory,
 }
 
-// The verdict on a file that is not read to its end.
-fn verdict_of(stop: Stop) -> Verdict
+// What is said of a file that is not read to its end.
+fn error_of(stop: Stop) -> ReadError
     ensures { result ≡ stopped stop }
 {
     match stop {
-        Stop::Fault(fault) => Verdict::Refused(tell(fault)),
-        Stop::Memory => Verdict::NoMemory,
+        Stop::Fault(fault) => ReadError::Refused(Refusal::from(fault)),
+        Stop::Memory => ReadError::NoMemory,
     }
 }
 
 // A file's plant together with the verdict on the file. The plant of a file that is not accepted is the empty floor.
-pub fn read_plant<'a>(heap: Global, file: &'a [u8]) -> (FilePlant<'a>, Verdict)
+pub fn read_plant<'a>(heap: Global, file: &'a [u8]) -> (FilePlant<'a>, Result<(), ReadError>)
     ensures judged { Judged (judge file.now) (content result.0) result.1 }
     ensures promised { Promised file.now result.0 result.1 }
 {
     let mut plant = empty(heap);
     match fill(&mut plant, file) {
-        Ok(()) => (plant, Verdict::Accepted),
-        Err(stop) => (empty(heap), verdict_of(stop)),
+        Ok(()) => (plant, Ok(())),
+        Err(stop) => (empty(heap), Err(error_of(stop))),
     }
 }

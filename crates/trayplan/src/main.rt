@@ -4,18 +4,17 @@
 // write that fails, and want of memory, are told in one line on standard error, with status 1.
 #![tactic(auto)]
 
-ghost use Rattle.std.specs.Prelude.{IfOk};
 ghost use Rattle.trayplan.specs.Answers.{DayAnswers};
 
-use console::{Answer, Failure, print_answer, read_file, read_to, status_of, tell_failure};
+use console::{Failure, print_answer, read_file, read_to, status_of, tell_failure};
 use listing::show_refusal;
 use piles::{Ceiling, Closing};
 use planning::plan_lines;
 use plant::Plant;
-use plantfile::{Verdict, read_plant};
+use plantfile::{ReadError, read_plant};
 use plantformat::MOST_BYTES;
 use sheets::{MOST_SHEET_BYTES, apply_sheet};
-use std::alloc::{AllocError, Global};
+use std::alloc::Global;
 use std::io::ErrorKind;
 use std::process::ExitCode;
 use std::{fs, io};
@@ -28,13 +27,13 @@ fn answer_of_day<P: Plant + Drop>(
     heap: Global,
     plant: P,
     sheet: &[u8],
-) -> Result<Answer, AllocError>
-    ensures { IfOk result (λ a. DayAnswers (P.meaning plant) sheet.now a) }
+) -> Result<Vec<u8>, Failure>
+    ensures { DayAnswers (P.meaning plant) sheet.now result }
 {
     let mut pile = Ceiling::new(Closing::new(plant));
     match apply_sheet(sheet, &mut pile) {
-        Ok(()) => Ok(Answer::Listing(plan_lines(heap, pile)?)),
-        Err(refusal) => Ok(Answer::Refusal(show_refusal(heap, b"sheet", refusal)?)),
+        Ok(()) => Ok(plan_lines(heap, pile)?),
+        Err(refusal) => Err(Failure::Refused(show_refusal(heap, "sheet", refusal)?)),
     }
 }
 
@@ -42,34 +41,30 @@ fn answer_of_day<P: Plant + Drop>(
 fn read_sheet(rt: &HostRuntime) -> io::Result<Vec<u8>> {
     match fs::open(rt, SHEET) {
         Ok(file) => read_to(rt, file, MOST_SHEET_BYTES as u32),
-        Err(e) => {
-            if e.kind() == ErrorKind::NotFound {
-                Ok(Vec::new(rt.alloc()))
-            } else {
-                Err(e)
-            }
-        }
+        Err(e) if e.kind() == ErrorKind::NotFound => Ok(Vec::new(rt.alloc())),
+        Err(e) => Err(e),
     }
 }
 
-// A refused file ends the program before the sheet is looked for.
+// What is to be printed of a file on the day of the sheet. A refused file is answered before the sheet is looked for.
+fn answer_to(rt: &HostRuntime, file: &[u8]) -> Result<Vec<u8>, Failure> {
+    let heap = rt.alloc();
+    let (plant, verdict) = read_plant(heap, file);
+    match verdict {
+        Ok(()) => {
+            let sheet = read_sheet(rt).map_err(Failure::Sheet)?;
+            answer_of_day(heap, plant, sheet.as_slice())
+        }
+        Err(ReadError::Refused(refusal)) => {
+            Err(Failure::Refused(show_refusal(heap, "file", refusal)?))
+        }
+        Err(ReadError::NoMemory) => Err(Failure::NoMemory),
+    }
+}
+
 fn plan_trays(rt: &HostRuntime) -> Result<(), Failure> {
     let file = read_file(rt, MOST_BYTES as u32)?;
-    let (plant, verdict) = read_plant(rt.alloc(), file.as_slice());
-    let answer = match verdict {
-        Verdict::Accepted => {
-            let sheet = match read_sheet(rt) {
-                Ok(sheet) => sheet,
-                Err(e) => return Err(Failure::Sheet(e)),
-            };
-            answer_of_day(rt.alloc(), plant, sheet.as_slice())?
-        }
-        Verdict::Refused(refusal) => {
-            Answer::Refusal(show_refusal(rt.alloc(), b"file", refusal)?)
-        }
-        Verdict::NoMemory => return Err(Failure::NoMemory),
-    };
-    print_answer(rt, answer)
+    print_answer(rt, answer_to(rt, file.as_slice()))
 }
 
 fn main(rt: HostRuntime) -> ExitCode {

@@ -1,6 +1,6 @@
 // A file for each refusal, with its place and its law.
 use plant::{Plant, Reason, Refusal};
-use plantfile::{Verdict, read_plant};
+use plantfile::{ReadError, read_plant};
 use std::alloc::Global;
 
 // The file is refused for this reason, at this place, with this law, and its plant is the empty floor.
@@ -12,7 +12,7 @@ fn is_refused(heap: Global, file: &[u8], reason: Reason, place: usize, law: u8) 
         place,
         law,
     };
-    verdict == Verdict::Refused(refusal) && plant.stations() == 2 && plant.lanes() == 0
+    verdict == Err(ReadError::Refused(refusal)) && plant.stations() == 2 && plant.lanes() == 0
 }
 
 // The last lane lacks a byte.

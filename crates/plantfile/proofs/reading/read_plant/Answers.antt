@@ -1,9 +1,9 @@
-use Rattle.std.proofs.Common.{ap}
+use Rattle.std.proofs.Common.{ap, Err}
 use mathlib.Core.Path.{subst⁻¹}
 use Rattle.plantformat.specs.Judge.{Draft, judge}
 use Rattle.answers.specs.Content.{content}
 use Rattle.plantfile.specs.Promise.{Judged, Promised}
-use Rattle.plantfile.specs.declared.reading.Verdict.{Verdict}
+use Rattle.plantfile.specs.declared.reading.ReadError.{ReadError}
 use Rattle.plantfile.proofs.Promises.{judged_accepted, promised_accepted, judged_stopped, promised_stopped}
 use Rattle.plantfile.proofs.reading.read_plant.Goals as goal
 
@@ -27,8 +27,8 @@ returns c =
     let s = c.in-Err.stop in
     record {
       judged =
-          subst⁻¹ (λ (v : Verdict). Judged (judge bs) (content p) v) c.verdict_of.ensures
+          subst⁻¹ (λ (e : ReadError). Judged (judge bs) (content p) (Err e)) c.error_of.ensures
           (judged_stopped bs p c.empty.ensures.holds d s c.in-Err.ensures);
       promised =
-          subst⁻¹ (λ (v : Verdict). Promised bs p v) c.verdict_of.ensures (promised_stopped bs p c.empty.ensures.holds d s c.in-Err.ensures);
+          subst⁻¹ (λ (e : ReadError). Promised bs p (Err e)) c.error_of.ensures (promised_stopped bs p c.empty.ensures.holds d s c.in-Err.ensures);
     }

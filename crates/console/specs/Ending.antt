@@ -1,11 +1,11 @@
 -- How a program ends.
-use Rattle.std.specs.Prelude.{◌≡◌, ℕ, List, Some, None, Option, Ok, Err, Result, IfErr, ◌⊎◌, string_bytes, codes}
+use Rattle.std.specs.Prelude.{◌≡◌, ℕ, List, Some, None, Option, Ok, Err, Result, IfErr, ◌⊎◌, codes}
 use Rattle.console.specs.declared.Failure.{Failure}
 use Rattle.console.specs.declared.Failure.TheVariants.{Refused, NoMemory, Io, Sheet}
 
 -- what is told of a failure; the words for an error of input or output are the system's
 abbrev pub failure_words : Failure → Option (List ℕ)
-failure_words (Refused line) = Some (string_bytes line)
+failure_words (Refused line) = Some (codes "the input is refused")
 failure_words NoMemory = Some (codes "out of memory")
 failure_words (Io _) = None
 failure_words (Sheet _) = None

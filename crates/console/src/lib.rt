@@ -17,7 +17,7 @@ use std::{fmt, io};
 #[derive(Drop)]
 pub enum Failure {
     // The input is refused, which this line says.
-    Refused(String),
+    Refused(Vec<u8>),
     NoMemory,
     // A read of standard input or a write failed.
     Io(io::Error),
@@ -46,7 +46,7 @@ impl fmt::Display for Failure {
 
     fn fmt<W: fmt::Write>(&self, f: &mut fmt::Formatter<W>) -> fmt::Result {
         match self {
-            Failure::Refused(line) => write!(f, "{line}"),
+            Failure::Refused(_) => write!(f, "the input is refused"),
             Failure::NoMemory => write!(f, "out of memory"),
             Failure::Io(e) => write!(f, "{e}"),
             Failure::Sheet(e) => write!(f, "today.bin: {e}"),
@@ -82,7 +82,7 @@ pub fn print_answer<Lines: AsSlice<u8> + Drop>(
             Ok(())
         }
         Err(Failure::Refused(line)) => {
-            rt.write_all(line.as_bytes())?;
+            rt.write_all(line.as_slice())?;
             Err(Failure::Refused(line))
         }
         Err(failure) => Err(failure),

@@ -21,11 +21,15 @@ pub fn show_plant<P: Plant>(heap: Global, plant: &P) -> Result<String, AllocErro
     Ok(text)
 }
 
-// The one line that tells why a source, as `file`, is refused.
-pub fn show_refusal(heap: Global, source: &str, refusal: Refusal) -> Result<String, AllocError>
-    ensures { IfOk result (λ text. string_bytes text ≡ refusal_line source.now refusal) }
+// The one line that tells why a source, as `file`, is refused. A source may be any bytes, so the line is bytes and no text.
+pub fn show_refusal(heap: Global, source: &[u8], refusal: Refusal) -> Result<Vec<u8>, AllocError>
+    ensures { IfOk result (λ line. line.items ≡ refusal_line source.now refusal) }
 {
-    format!(in heap; "refused {source} {refusal}\n")
+    let words = format!(in heap; " {refusal}\n")?;
+    let mut line = b"refused ".to_vec(heap)?;
+    line.extend_from_slice(source)?;
+    line.extend_from_slice(words.as_bytes())?;
+    Ok(line)
 }
 
 // The line of the floor.

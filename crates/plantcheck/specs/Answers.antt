@@ -1,5 +1,5 @@
 -- What is printed of a file, by the verdict on it.
-use Rattle.std.specs.Prelude.{◌≡◌, ℕ, List, Ok, Err, string_bytes, codes, Result, String}
+use Rattle.std.specs.Prelude.{◌≡◌, ℕ, List, Ok, Err, string_bytes, vec_items, codes, Result, String}
 use Rattle.std.specs.declared.alloc.Global.{Global}
 use Rattle.plantformat.specs.declared.FloorFault.{FloorFault}
 use Rattle.plantformat.specs.Faults.{told}
@@ -22,7 +22,7 @@ Told (Err f) line = line ≡ refusal_line (codes "file") (told f)
 -- the lines of an accepted file, or the line of a refused one, or neither, and that for want of memory alone
 abbrev pub Answers : Result Draft FloorFault → Result (String Global) Failure → Type 0
 Answers j (Ok lines) = Listed j (string_bytes lines)
-Answers j (Err (Refused line)) = Told j (string_bytes line)
+Answers j (Err (Refused line)) = Told j (vec_items line)
 Answers j (Err NoMemory) = Unit {0}
 Answers j (Err (Io e)) = ⊥
 Answers j (Err (Sheet e)) = ⊥

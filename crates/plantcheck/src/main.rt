@@ -21,7 +21,7 @@ fn answer_to(heap: Global, file: &[u8]) -> Result<String, Failure>
     match verdict {
         Ok(()) => Ok(show_plant(heap, &plant)?),
         Err(ReadError::Refused(refusal)) => {
-            Err(Failure::Refused(show_refusal(heap, "file", refusal)?))
+            Err(Failure::Refused(show_refusal(heap, b"file", refusal)?))
         }
         Err(ReadError::NoMemory) => Err(Failure::NoMemory),
     }

@@ -1,5 +1,5 @@
 -- What is printed of a plant on a day, by the sheet of that day.
-use Rattle.std.specs.Prelude.{◌≡◌, ℕ, List, replicate, Ok, Err, Vec, vec_items, string_bytes, codes, Result, slice_index}
+use Rattle.std.specs.Prelude.{◌≡◌, ℕ, List, replicate, Ok, Err, Vec, vec_items, codes, Result, slice_index}
 use Rattle.std.specs.declared.alloc.Global.{Global}
 use Rattle.plant.specs.declared.refusals.Refusal as refused
 use Rattle.floor.specs.Meaning.{Meaning}
@@ -33,7 +33,7 @@ Told (Err e) line = line ≡ refusal_line (codes "sheet") e
 -- the listing of an accepted sheet, or the line of a refused one, or neither, and that for want of memory alone
 abbrev pub BySheet : Meaning → Result (List Setting) refused.Refusal → Result (Vec ℕ Global) Failure → Type 0
 BySheet M j (Ok lines) = Planned M j (vec_items lines)
-BySheet M j (Err (Refused line)) = Told j (string_bytes line)
+BySheet M j (Err (Refused line)) = Told j (vec_items line)
 BySheet M j (Err NoMemory) = Unit {0}
 BySheet M j (Err (Io e)) = ⊥
 BySheet M j (Err (Sheet e)) = ⊥

@@ -23,17 +23,13 @@ use std::{fs, io};
 const SHEET: &str = "today.bin";
 
 // What is to be printed of a plant on a day with this sheet: a plan on ceilings over closings over the plant, or the sheet's refusal.
-fn answer_of_day<P: Plant + Drop>(
-    heap: Global,
-    plant: P,
-    sheet: &[u8],
-) -> Result<Vec<u8>, Failure>
+fn answer_of_day<P: Plant + Drop>(heap: Global, plant: P, sheet: &[u8]) -> Result<Vec<u8>, Failure>
     ensures { DayAnswers (P.meaning plant) sheet.now result }
 {
     let mut pile = Ceiling::new(Closing::new(plant));
     match apply_sheet(sheet, &mut pile) {
         Ok(()) => Ok(plan_lines(heap, pile)?),
-        Err(refusal) => Err(Failure::Refused(show_refusal(heap, "sheet", refusal)?)),
+        Err(refusal) => Err(Failure::Refused(show_refusal(heap, b"sheet", refusal)?)),
     }
 }
 
@@ -56,7 +52,7 @@ fn answer_to(rt: &HostRuntime, file: &[u8]) -> Result<Vec<u8>, Failure> {
             answer_of_day(heap, plant, sheet.as_slice())
         }
         Err(ReadError::Refused(refusal)) => {
-            Err(Failure::Refused(show_refusal(heap, "file", refusal)?))
+            Err(Failure::Refused(show_refusal(heap, b"file", refusal)?))
         }
         Err(ReadError::NoMemory) => Err(Failure::NoMemory),
     }

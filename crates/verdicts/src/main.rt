@@ -2,7 +2,7 @@
 // digits, an empty line the empty file; for each the program prints `accepted`, or the line of the refusal.
 #![tactic(auto)]
 
-ghost use Rattle.std.specs.Prelude.{◌≡◌, IfOk, string_bytes};
+ghost use Rattle.std.specs.Prelude.{◌≡◌, IfOk};
 ghost use Rattle.plantformat.specs.Judge.{judge};
 ghost use Rattle.verdicts.specs.Verdicts.{verdict_line};
 
@@ -14,13 +14,13 @@ use std::alloc::{AllocError, Global};
 use std::io::{BufRead, BufReader};
 
 // The line that tells a file's verdict.
-fn told_verdict(heap: Global, file: &[u8]) -> Result<String, AllocError>
-    ensures { IfOk result (λ v. string_bytes v ≡ verdict_line (judge file.now)) }
+fn told_verdict(heap: Global, file: &[u8]) -> Result<Vec<u8>, AllocError>
+    ensures { IfOk result (λ line. line.items ≡ verdict_line (judge file.now)) }
 {
     let (_, verdict) = read_plant(heap, file);
     match verdict {
-        Ok(()) => format!(in heap; "accepted\n"),
-        Err(ReadError::Refused(refusal)) => show_refusal(heap, "file", refusal),
+        Ok(()) => b"accepted\n".to_vec(heap),
+        Err(ReadError::Refused(refusal)) => show_refusal(heap, b"file", refusal),
         Err(ReadError::NoMemory) => Err(AllocError),
     }
 }
@@ -32,7 +32,7 @@ fn judge_lines(rt: &HostRuntime) -> anyhow::Result<()> {
         let Some(file) = bytes_of(heap, line?.as_bytes())? else {
             return Err(anyhow!("a line holds something else than bytes in hex digits"));
         };
-        rt.write_all(told_verdict(heap, file.as_slice())?.as_bytes())?;
+        rt.write_all(told_verdict(heap, file.as_slice())?.as_slice())?;
     }
     Ok(())
 }

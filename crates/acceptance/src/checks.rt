@@ -14,11 +14,7 @@ pub fn agrees(heap: Global, file: &[u8], expected: &str) -> Result<bool, AllocEr
     let mut stepped = Trial::open(heap, plant)?;
     let (again, _) = read_plant(heap, file);
     let mut ran = Trial::open(heap, again)?;
-    Ok(
-        stepped.steps_as(expected)?
-            && ran.runs_as(&stepped)?
-            && ran.loads_as(&stepped)?,
-    )
+    Ok(stepped.steps_as(expected)? && ran.runs_as(&stepped)? && ran.loads_as(&stepped)?)
 }
 
 impl<P: Plant + Drop> Trial<P> {
@@ -90,7 +86,9 @@ impl<P: Plant + Drop> Trial<P> {
     fn refuses_length(&mut self, trays: &[u32]) -> Result<bool, AllocError> {
         let mut longer = trays.to_vec(self.heap)?;
         longer.push(0)?;
-        Ok(self.plan.load(longer.as_slice()) == Err(Unfit::Length)
-            && self.plan.trays(longer.as_mut_slice()) == Err(Unfit::Length))
+        Ok(
+            self.plan.load(longer.as_slice()) == Err(Unfit::Length)
+                && self.plan.trays(longer.as_mut_slice()) == Err(Unfit::Length),
+        )
     }
 }

@@ -76,7 +76,12 @@ impl<P: Plant + Drop> Trial<P> {
 
     // The total and the number of moves.
     pub fn tell_totals(&self, text: &mut String) -> Result<(), AllocError> {
-        write!(text, "total {} moves {} ", self.plan.total(), self.plan.moves())
+        write!(
+            text,
+            "total {} moves {} ",
+            self.plan.total(),
+            self.plan.moves()
+        )
     }
 
     // The trays of each lane and the cut, or `refused` where a reading is refused.

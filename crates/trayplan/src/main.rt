@@ -23,11 +23,7 @@ use std::{fs, io};
 const SHEET: &str = "today.bin";
 
 // What is to be printed of a plant on a day with this sheet: a plan on ceilings over closings over the plant, or the sheet's refusal.
-fn answer_of_day<P: Plant + Drop>(
-    heap: Global,
-    plant: P,
-    sheet: &[u8],
-) -> Result<Vec<u8>, Failure>
+fn answer_of_day<P: Plant + Drop>(heap: Global, plant: P, sheet: &[u8]) -> Result<Vec<u8>, Failure>
     ensures { DayAnswers (P.meaning plant) sheet.now result }
 {
     let mut pile = Ceiling::new(Closing::new(plant));

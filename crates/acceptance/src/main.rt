@@ -5,7 +5,7 @@
 #![tactic(auto)]
 
 mod checks;
-mod told;
+mod trial;
 
 use anyhow::anyhow;
 use checks::agrees;
@@ -25,7 +25,7 @@ fn plan_lines(rt: &HostRuntime) -> anyhow::Result<()> {
         let Some(file) = bytes_of(heap, digits.as_bytes())? else {
             return Err(anyhow!("a line does not begin with bytes in hex digits"));
         };
-        if agrees(heap, file.as_slice(), expected.as_bytes())? {
+        if agrees(heap, file.as_slice(), expected)? {
             agreed = agreed.saturating_add(1);
         } else {
             println!(rt; "floor {floors} does not agree")?;

@@ -11,4 +11,4 @@
 mod reading;
 
 pub use answers::FilePlant;
-pub use reading::{Verdict, read_plant};
+pub use reading::{ReadError, read_plant};

@@ -1,6 +1,6 @@
 // Files that are accepted, and what their plants answer.
 use plant::{OffFloor, Plant};
-use plantfile::{Verdict, read_plant};
+use plantfile::read_plant;
 
 // Two lanes from the stock to the despatch, of 3 and 4 trays.
 const TWO_PLAIN_LANES: &[u8] = &[
@@ -46,7 +46,7 @@ const GRIPPER_AT_THE_STOCK: &[u8] = &[
 #[test]
 fn plain_lanes_add_up(rt: HostRuntime) {
     let (plant, verdict) = read_plant(rt.alloc(), TWO_PLAIN_LANES);
-    assert_eq!(rt; verdict, Verdict::Accepted);
+    assert_eq!(rt; verdict, Ok(()));
     assert_eq!(rt; plant.cap(0, 0), Ok(0));
     assert_eq!(rt; plant.cap(0, 1), Ok(3));
     assert_eq!(rt; plant.cap(0, 2), Ok(4));
@@ -57,7 +57,7 @@ fn plain_lanes_add_up(rt: HostRuntime) {
 #[test]
 fn a_floor_is_told_whole(rt: HostRuntime) {
     let (plant, verdict) = read_plant(rt.alloc(), GRIPPER_AT_THE_DESPATCH);
-    assert_eq!(rt; verdict, Verdict::Accepted);
+    assert_eq!(rt; verdict, Ok(()));
     assert_eq!(rt; plant.stations(), 4);
     assert_eq!(rt; plant.lanes(), 5);
     assert_eq!(rt; plant.stock(), 0);
@@ -82,18 +82,18 @@ fn what_is_not_on_the_floor_is_refused(rt: HostRuntime) {
 #[test]
 fn a_table_gives_its_numbers(rt: HostRuntime) {
     let (shared, verdict) = read_plant(rt.alloc(), TWO_LANES_WITH_A_TABLE);
-    assert_eq!(rt; verdict, Verdict::Accepted);
+    assert_eq!(rt; verdict, Ok(()));
     assert_eq!(rt; shared.cap(0, 3), Ok(5));
     assert_eq!(rt; shared.cap(3, 3), Ok(7));
     let (loose, verdict) = read_plant(rt.alloc(), TABLE_AT_ITS_LIMIT);
-    assert_eq!(rt; verdict, Verdict::Accepted);
+    assert_eq!(rt; verdict, Ok(()));
     assert_eq!(rt; loose.cap(0, 3), Ok(7));
 }
 
 #[test]
 fn grades_add_up_by_the_number_of_lanes(rt: HostRuntime) {
     let (plant, verdict) = read_plant(rt.alloc(), THREE_LANES_WITH_GRADES);
-    assert_eq!(rt; verdict, Verdict::Accepted);
+    assert_eq!(rt; verdict, Ok(()));
     assert_eq!(rt; plant.cap(0, 4), Ok(5));
     assert_eq!(rt; plant.cap(0, 5), Ok(10));
     assert_eq!(rt; plant.cap(0, 7), Ok(12));
@@ -103,12 +103,12 @@ fn grades_add_up_by_the_number_of_lanes(rt: HostRuntime) {
 #[test]
 fn groups_bound_their_lanes(rt: HostRuntime) {
     let (despatch, verdict) = read_plant(rt.alloc(), GRIPPER_AT_THE_DESPATCH);
-    assert_eq!(rt; verdict, Verdict::Accepted);
+    assert_eq!(rt; verdict, Ok(()));
     assert_eq!(rt; despatch.cap(7, 3), Ok(1));
     assert_eq!(rt; despatch.cap(7, 5), Ok(2));
     assert_eq!(rt; despatch.cap(7, 7), Ok(2));
     let (stock, verdict) = read_plant(rt.alloc(), GRIPPER_AT_THE_STOCK);
-    assert_eq!(rt; verdict, Verdict::Accepted);
+    assert_eq!(rt; verdict, Ok(()));
     assert_eq!(rt; stock.cap(0, 3), Ok(1));
     assert_eq!(rt; stock.cap(0, 7), Ok(2));
 }

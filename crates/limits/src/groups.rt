@@ -70,7 +70,7 @@ impl Groups<'_> {
         (0..self.width).all(|position| self.group_of(position) < self.count)
     }
 
-    // The own caps of the set's members, added up by group.
+    // The own caps of the set's members, added up by group: one pass over the lanes adds each to the sum of its group.
     #[tactic(auto, using(crate::proofs::CapSums::member_on))]
     fn own_sums(self, own: &[u32], set: usize) -> [u32; MOST_GROUPS]
         requires groups { GroupsOf self.count (length own.now) self.numbers.now }

@@ -22,7 +22,7 @@ pub use caps::cap_of;
 pub use checks::check_limit;
 
 // A limit of a side, which borrows its numbers from the file: the caps of a table, the groups and the positions' groups of a
-// groups record, or the grades.
+// groups record, or the grades. Each kind names its side, as each does in the definition of the format.
 #[derive(Clone, Copy)]
 pub enum Limit<'a> {
     Table {

@@ -2,7 +2,7 @@
 use Rattle.std.proofs.Common.{◌≡◌, ℕ, ◌<◌, ◌≤◌, List, map, Ok, Err, vec_items, Result, sym, refl, ap, ◌∙◌, subst, inl, inr, arith}
 use Rattle.plant.specs.declared.refusals.Reason.{Reason}
 use Rattle.plant.specs.declared.refusals.Reason.TheVariants as reason
-use Rattle.plant.specs.Refusals.{number_of, law_told, law_number, refused}
+use Rattle.plant.specs.Refusals.{number_of, law_number, law_told, refused}
 use Rattle.plantformat.specs.declared.Head.{Head}
 use Rattle.plantformat.specs.declared.Lane.{Lane}
 use Rattle.plant.specs.declared.refusals.Law.{Law}
@@ -19,19 +19,18 @@ use Rattle.plantformat.specs.Promise.{PlantFile}
 use Rattle.plantformat.proofs.Verdicts.{ok_same}
 use Rattle.plantformat.proofs.Accepted.{accepted_files_encode, encodings_are_accepted}
 use Rattle.answers.specs.Content.{content}
-use Rattle.plantfile.specs.Steps.{Filled}
-use Rattle.plantfile.specs.Promise.{empty_draft, stopped, Judged, FileRefusal, Promised}
-use Rattle.plantfile.specs.declared.reading.Stop.{Stop}
-use Rattle.plantfile.specs.declared.reading.Stop.TheVariants.{Fault, Memory}
+use Rattle.plantfile.specs.Steps.{ReadWhole}
+use Rattle.plantfile.specs.Promise.{empty_draft, FileRefusal, Promised}
 use Rattle.limits.specs.Told.{told}
 use Rattle.answers.specs.declared.file_plant.FilePlant.{FilePlant}
-use Rattle.plantfile.specs.declared.reading.ReadError.TheVariants.{NoMemory}
+use Rattle.plantfile.specs.declared.reading.ReadError.{ReadError}
+use Rattle.plantfile.specs.declared.reading.ReadError.TheVariants.{Refused, NoMemory}
 
 -- every fault is told as a refusal that is listed
 unnamed_listed : (r : Reason) → 1 ≤ number_of r → number_of r < 9 → law_told r ≡ 0 → (at : ℕ) → FileRefusal (refused r at)
 unnamed_listed r low high none at = record { first = low; last = omega arith; layer = refl; named = λ e. absurd (omega arith); unnamed = λ e. none }
 
-named_listed : (at : ℕ) (l : Law) → FileRefusal (faults.told (flo.Limit (lim.Breaks at l)))
+named_listed : (at : ℕ) (l : Law) → FileRefusal (refused (reason.Law l) at)
 named_listed at l = record { first = omega arith; last = omega arith; layer = refl; named = λ e. by l; unnamed = λ e. absurd (e refl) }
   where
     by : (l : Law) → (1 ≤ law_number l) × (law_number l ≤ 3)
@@ -52,9 +51,6 @@ told_listed (flo.Limit (lim.Breaks at l)) = named_listed at l
 
 module _ (bs : List ℕ) (p : FilePlant) where
   -- a file that was read to its end
-  pub judged_accepted : judge bs ≡ Ok (content p) → Judged (judge bs) (content p) (Ok tt)
-  judged_accepted e = subst (λ (j : Result Draft FloorFault). Judged j (content p) (Ok tt)) (sym e) refl
-
   pub promised_accepted : judge bs ≡ Ok (content p) → Promised bs p (Ok tt)
   promised_accepted e = record {
     accepted = λ v. (p.head, vec_items p.lanes, map told (vec_items p.limits), accepted_files_encode bs (content p) e, refl);
@@ -74,22 +70,14 @@ module _ (bs : List ℕ) (p : FilePlant) where
         omega arith
 
     -- a file that was not read to its end, for a fault of its own or for want of memory
-    pub judged_stopped : (d : Draft) (s : Stop) → Filled (judge bs) d (Err s) → Judged (judge bs) (content p) (Err (stopped s))
-    judged_stopped d (Fault f) e = subst (λ (j : Result Draft FloorFault). Judged j (content p) (Err (stopped (Fault f)))) (sym e) (refl, empty)
-    judged_stopped d Memory e = by (judge bs)
-      where
-        by : (j : Result Draft FloorFault) → Judged j (content p) (Err NoMemory)
-        by (Ok d) = empty
-        by (Err f) = empty
-
-    pub promised_stopped : (d : Draft) (s : Stop) → Filled (judge bs) d (Err s) → Promised bs p (Err (stopped s))
-    promised_stopped d (Fault f) e = record {
+    pub promised_stopped : (e : ReadError) → ReadWhole (judge bs) (Err e) → Promised bs p (Err e)
+    promised_stopped (Refused x) (f, e, told) = record {
       accepted = λ v. let z : ◌≡◌ {A = ℕ} 0 1 = cc in absurd (omega arith);
       taken = λ h ls ks k. absurd (no_file f e h ls ks k);
-      refused = λ x v. let same : faults.told f ≡ x = cc in (subst FileRefusal same (told_listed f), no_file f e);
+      refused = λ y v. let same : faults.told f ≡ y = cc in (subst FileRefusal same (told_listed f), no_file f e);
       empty = λ v. empty;
     }
-    promised_stopped d Memory e = record {
+    promised_stopped NoMemory e = record {
       accepted = λ v. let z : ◌≡◌ {A = ℕ} 0 1 = cc in absurd (omega arith);
       taken = λ h ls ks k. inl refl;
       refused = λ x v. let z : ◌≡◌ {A = ℕ} 0 1 = cc in absurd (omega arith);

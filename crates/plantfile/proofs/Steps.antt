@@ -1,32 +1,23 @@
--- One record more: its numbers are in range, the verdict on it, and what is kept of it.
-use Rattle.std.proofs.Common.{◌≡◌, ℕ, ◌*◌, ◌<◌, Bool, true, eqb, ltb, List, [], ◌∷◌, ◌++◌, map, length, drop, Ok, Err, vec_items, vec_len, Result, sym, refl, ap, ◌∙◌, subst, arith}
-use mathlib.Core.Path.{subst⁻¹}
+-- One record more: whether it may be a lane, and the ranges of its numbers.
+use Rattle.std.proofs.Common.{◌≡◌, ℕ, ◌*◌, ◌<◌, Bool, true, eqb, ltb, List, length, drop, Ok, Err, vec_items, vec_len, Result, sym, refl, ap, ◌∙◌, subst, arith}
 use Rattle.std.proofs.lemmas.Bool.{ltb-true}
-use Rattle.std.proofs.lemmas.List.{length-map, map_push}
+use Rattle.std.proofs.lemmas.List.{length-map}
 use Rattle.plantformat.specs.declared.Lane.{Lane}
 use Rattle.plantformat.specs.declared.Kind.{Kind}
 use Rattle.plantformat.specs.declared.Kind.TheVariants as kind
 use Rattle.plantformat.specs.declared.RecordFault.{RecordFault}
-use Rattle.plantformat.specs.declared.FloorFault.{FloorFault}
-use Rattle.plantformat.specs.declared.FloorFault.TheVariants as flo
 use Rattle.plantformat.specs.Bytes.{word}
-use Rattle.plantformat.specs.Rules.{lane_ranged, keeps}
-use Rattle.plantformat.specs.Judge.{onward, Part, a_table, a_groups, a_grades, Draft, draft, framed, lane_at, lane_read, laned, fixed_part, part_read, recorded, placed, lanes_may_come}
+use Rattle.plantformat.specs.Rules.{lane_ranged}
+use Rattle.plantformat.specs.Judge.{Part, a_table, a_groups, a_grades, framed, lane_at, lane_read, laned, fixed_part, part_read, recorded, lanes_may_come}
 use Rattle.plantformat.proofs.Verdicts.{unless_ok, unless_not_ok, onward_ok, with_rest_ok, ok_same}
-use Rattle.limits.specs.Told.{told, allowed}
+use Rattle.limits.specs.Told.{told}
 use Rattle.answers.specs.Content.{content}
 use Rattle.placing.specs.Ranges.{Ranged}
-use Rattle.plantfile.specs.Steps.{next_judged, grown, keeps_draft, KeptLimit}
-use Rattle.plantfile.specs.declared.reading.Stop.{Stop}
-use Rattle.plantfile.specs.declared.reading.Stop.TheVariants.{Fault, Memory}
-use Rattle.limits.specs.declared.Limit as code
-use Rattle.records.specs.declared.bodies.Record as code_record
-use Rattle.records.specs.declared.bodies.Record.TheVariants as record_of
 use Rattle.answers.specs.declared.file_plant.FilePlant.{FilePlant}
 
 -- lanes may come as long as the plant has no limit
-pub may_come : (f : FilePlant) (b : Bool) → b ≡ eqb (vec_len f.limits) 0 → b ≡ lanes_may_come (content f)
-may_come f b e = e ∙ ap (λ n. eqb n 0) (f.limits.ok.0 ∙ sym (length-map (vec_items f.limits) told))
+pub may_come : (f : FilePlant) → lanes_may_come (content f) ≡ eqb (vec_len f.limits) 0
+may_come f = ap (λ n. eqb n 0) (length-map (vec_items f.limits) told ∙ sym f.limits.ok.0)
 
 -- ---- a record that was read is in range
 
@@ -62,41 +53,3 @@ recorded_ranged lanes n at bs p rest e =
     let a = onward_ok _ (framed at bs) _ e in
     let c = with_rest_ok a.0.rest _ a.2 in
     part_ranged a.0.kind lanes n at a.0.body p c.0
-
--- ---- the verdict on the next record
-
-module _ (d : Draft) (at : ℕ) (bs : List ℕ) where
-  pub next_unread : (e : RecordFault) → recorded (lanes_may_come d) d.head.stations at bs ≡ Err e → next_judged d at bs ≡ Err (flo.Record e)
-  next_unread e h = ap (λ r. onward flo.Record r (λ p. onward (λ e. e) (placed d at p.0) (λ _. Ok p))) h
-
-  module _ (p : Part) (rest : List ℕ) (read : recorded (lanes_may_come d) d.head.stations at bs ≡ Ok (p, rest)) where
-    step : next_judged d at bs ≡ onward (λ e. e) (placed d at p) (λ _. Ok (p, rest))
-    step = ap (λ r. onward flo.Record r (λ q. onward (λ e. e) (placed d at q.0) (λ _. Ok q))) read
-
-    by : (r : Result Draft FloorFault) (a : Result (Unit {0}) FloorFault) → a ≡ allowed r
-        → onward {Y = Part × List ℕ} (λ e. e) r (λ _. Ok (p, rest)) ≡ onward {Y = Part × List ℕ} (λ e. e) a (λ _. Ok (p, rest))
-    by (Ok x) a e = ap (λ r. onward {Y = Part × List ℕ} (λ e. e) r (λ _. Ok (p, rest))) (sym e)
-    by (Err x) a e = ap (λ r. onward {Y = Part × List ℕ} (λ e. e) r (λ _. Ok (p, rest))) (sym e)
-
-    -- refused, or allowed, by what may stand where it does
-    pub next_by : (a : Result (Unit {0}) FloorFault) → a ≡ allowed (placed d at p)
-        → next_judged d at bs ≡ onward (λ e. e) a (λ _. Ok (p, rest))
-    next_by a e = step ∙ by (placed d at p) a e
-
--- ---- one limit more
-
-module _ (f : FilePlant) (l : code.Limit) where
-  -- the limits afterwards, whether or not there was memory for one more, keep the rules
-  pub kept_keeps : (r : code_record.Record) → r ≡ record_of.Limit l → (answer : Result (Unit {0}) Stop) (xs : List code.Limit)
-      → KeptLimit (vec_items f.limits) l xs answer → keeps_draft (grown (content f) r) ≡ true
-      → keeps f.head (vec_items f.lanes) (map told xs) ≡ true
-  kept_keeps r is (Ok _) xs e k =
-      subst⁻¹ (λ ks. keeps f.head (vec_items f.lanes) ks ≡ true) (ap (map told) e ∙ map_push told (vec_items f.limits) l)
-      (subst (λ (x : code_record.Record). keeps_draft (grown (content f) x) ≡ true) is k)
-  kept_keeps r is (Err (Fault x)) xs e k = absurd e
-  kept_keeps r is (Err Memory) xs e k = subst⁻¹ (λ ks. keeps f.head (vec_items f.lanes) ks ≡ true) (ap (map told) e) f.kept
-
-  pub pushed_grown : (r : code_record.Record) → r ≡ record_of.Limit l → (xs : List code.Limit) → xs ≡ vec_items f.limits ++ l ∷ []
-      → draft f.head (vec_items f.lanes) (map told xs) ≡ grown (content f) r
-  pushed_grown r is xs e =
-      ap (draft f.head (vec_items f.lanes)) (ap (map told) e ∙ map_push told (vec_items f.limits) l) ∙ sym (ap (grown (content f)) is)

@@ -9,7 +9,7 @@ use Rattle.plantformat.specs.declared.RecordFault.{RecordFault}
 use Rattle.plantformat.specs.declared.FloorFault.{FloorFault}
 use Rattle.plantformat.specs.declared.FloorFault.TheVariants as flo
 use Rattle.plantformat.specs.Numbers.{most_bytes}
-use Rattle.plantformat.specs.Rules.{lane_leads, keeps}
+use Rattle.plantformat.specs.Rules.{head_keeps, lane_leads, keeps}
 use Rattle.plantformat.specs.Judge.{onward, unless, Part, Draft, draft, framed, headed, recorded, placed, lanes_may_come, limit_placed, limit_added, crowded, read_on, judge}
 use Rattle.plantformat.proofs.Verdicts.{unless_ok, onward_ok, with_rest_ok, ok_same}
 use Rattle.plantformat.proofs.Frames.{framed_cut}
@@ -128,19 +128,19 @@ placed_grown d at (record_of.Limit (Grades s b)) next e = limit_grown d at s _ (
 
 -- ---- the beginning
 
-pub opened_keeps : (bs : List ℕ) (h : Head) (rest : List ℕ) → opened bs ≡ Ok (h, rest) → (keeps h [] [] ≡ true) × (length rest ≤ length bs)
+pub opened_keeps : (bs : List ℕ) (h : Head) (rest : List ℕ) → opened bs ≡ Ok (h, rest) → (head_keeps h ≡ true) × (length rest ≤ length bs)
 opened_keeps bs h rest e =
     let a = unless_ok (ltb most_bytes (length bs)) _ _ e in
     let b = onward_ok flo.Record (headed bs) _ a.1 in
     by b.0 b.1 (ok_same {E = FloorFault} b.2)
   where
-    by : (p : Head × List ℕ) → headed bs ≡ Ok p → p ≡ (h, rest) → (keeps h [] [] ≡ true) × (length rest ≤ length bs)
+    by : (p : Head × List ℕ) → headed bs ≡ Ok p → p ≡ (h, rest) → (head_keeps h ≡ true) × (length rest ≤ length bs)
     by p f g =
         let t = headed_ok bs p f in
         let n = length-append t.front p.1 in
         let m = ap length t.cut in
         let q : length rest ≡ length p.1 = ap (λ (x : Head × List ℕ). length x.1) (sym g) in
-        (subst (λ (x : Head × List ℕ). keeps x.0 [] [] ≡ true) g (kept_from p.0 [] [] (kept_head p.0 t.keeps)), omega arith)
+        (subst (λ (x : Head × List ℕ). head_keeps x.0 ≡ true) g t.keeps, omega arith)
 
 pub judged_on : (bs : List ℕ) (h : Head) (rest : List ℕ) → opened bs ≡ Ok (h, rest)
     → judge bs ≡ read_on (length rest) (length bs) (draft h [] []) rest
@@ -155,22 +155,10 @@ judged_on bs h rest e = by (ltb most_bytes (length bs)) (headed bs) e
         ap (λ (x : Head × List ℕ). read_on (length x.1) (length bs) (draft x.0 [] []) x.1) s
     by false (Err x) q = let z : ◌≡◌ {A = ℕ} 0 1 = cc in absurd (omega arith)
 
-pub judged_not : (bs : List ℕ) (e : FloorFault) → opened bs ≡ Err e → judge bs ≡ Err e
-judged_not bs e h = by (ltb most_bytes (length bs)) (headed bs) h
-  where
-    by : (b : Bool) (r : Result (Head × List ℕ) RecordFault) → unless {Y = Head × List ℕ} b (flo.TooMany 0) (onward flo.Record r (λ p. Ok p)) ≡ Err e
-        → unless b (flo.TooMany 0) (onward flo.Record r (λ p. read_on (length p.1) (length bs) (draft p.0 [] []) p.1)) ≡ Err e
-    by true r q = let s : flo.TooMany 0 ≡ e = cc in ap {B = Result Draft FloorFault} Err s
-    by false (Ok p) q = let z : ◌≡◌ {A = ℕ} 0 1 = cc in absurd (omega arith)
-    by false (Err x) q = let s : flo.Record x ≡ e = cc in ap {B = Result Draft FloorFault} Err s
-
--- a plant to which nothing has been added holds its head alone
-module _ (h : Head) (ls : List Lane) (ks : List code_limit.Limit) (no_lanes : ls ≡ []) (no_limits : ks ≡ []) where
-  pub fresh_draft : draft h [] [] ≡ draft h ls (map told ks)
-  fresh_draft = sym (λ i. draft h (no_lanes i) (map told (no_limits i)))
-
-  pub fresh_keeps : keeps h [] [] ≡ true → keeps h ls (map told ks) ≡ true
-  fresh_keeps k = subst (λ (d : Draft). keeps_draft d ≡ true) fresh_draft k
+-- a head that keeps the rules keeps them alone, in lists to which nothing has been added
+pub fresh_keeps : (h : Head) (ls : List Lane) (ks : List code_limit.Limit) → ls ≡ [] → ks ≡ [] → head_keeps h ≡ true → keeps h ls (map told ks) ≡ true
+fresh_keeps h ls ks no_lanes no_limits k =
+    (λ i. keeps h (no_lanes i) (map told (no_limits i))) ∙ kept_from h [] [] (kept_head h k)
 
 -- ---- a record that may be added
 

@@ -1,7 +1,7 @@
 -- What the reader of plant files promises of its two answers, a plant and a verdict.
 use Rattle.std.specs.Prelude.{◌≡◌, ℕ, ◌≤◌, ◌⊎◌, List, [], Ok, Err, Result, ◌≢◌}
 use Rattle.plant.specs.declared.refusals.Refusal.{Refusal}
-use Rattle.plant.specs.Refusals.{number_of, layer_of, law_told}
+use Rattle.plant.specs.Refusals.{number_of, law_told, layer_of}
 use Rattle.plantformat.specs.declared.Head.{Head}
 use Rattle.plantformat.specs.declared.Lane.{Lane}
 use Rattle.plantformat.specs.declared.FloorFault.{FloorFault}
@@ -11,8 +11,6 @@ use Rattle.plantformat.specs.Judge.{Draft, draft}
 use Rattle.plantformat.specs.Promise.{PlantFile}
 use Rattle.answers.specs.Content.{content, file_meaning}
 use Rattle.answers.specs.declared.file_plant.FilePlant.{FilePlant}
-use Rattle.plantfile.specs.declared.reading.Stop.{Stop}
-use Rattle.plantfile.specs.declared.reading.Stop.TheVariants.{Fault, Memory}
 use Rattle.plantfile.specs.declared.reading.ReadError.{ReadError}
 use Rattle.plantfile.specs.declared.reading.ReadError.TheVariants.{Refused, NoMemory}
 
@@ -20,20 +18,11 @@ use Rattle.plantfile.specs.declared.reading.ReadError.TheVariants.{Refused, NoMe
 abbrev pub empty_draft : Draft
 empty_draft = draft (record { stations = 2; stock = 0; despatch = 1 }) [] []
 
--- what is said of a file that was not read to its end
-abbrev pub stopped : Stop → ReadError
-stopped (Fault f) = Refused (faults.told f)
-stopped Memory = NoMemory
-
--- the verdict on a file
-abbrev pub Verdict : Type 0
-Verdict = Result (Unit {0}) ReadError
-
 -- ---- by the definition of the judge
 
 -- what was judged, what the plant holds, and the verdict: an accepted file's records, or the empty floor with the first fault of the
 -- file, or the empty floor for want of memory
-abbrev pub Judged : Result Draft FloorFault → Draft → Verdict → Type 0
+abbrev pub Judged : Result Draft FloorFault → Draft → Result (Unit {0}) ReadError → Type 0
 Judged (Ok d) held (Ok _) = held ≡ d
 Judged (Ok d) held (Err (Refused x)) = ⊥
 Judged (Ok d) held (Err NoMemory) = held ≡ empty_draft
@@ -51,7 +40,7 @@ pub record FileRefusal (x : Refusal) : Type 0 where
   pub named : number_of x.reason ≡ 9 → (1 ≤ law_told x.reason) × (law_told x.reason ≤ 3)
   pub unnamed : (number_of x.reason ≢ 9) → law_told x.reason ≡ 0
 
-pub record Promised (bs : List ℕ) (p : FilePlant) (v : Verdict) : Type 0 where
+pub record Promised (bs : List ℕ) (p : FilePlant) (v : Result (Unit {0}) ReadError) : Type 0 where
   -- an accepted file encodes a head, lanes and limits that keep the rules, and the plant means what they define
   pub accepted : v ≡ Ok tt → (h : Head) × (ls : List Lane) × (ks : List Limit) × PlantFile bs h ls ks × (file_meaning p ≡ meaning_of h ls ks)
   -- a file that does so is accepted, unless memory is wanting, and the plant means what its records define, however they are found

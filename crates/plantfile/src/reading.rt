@@ -1,12 +1,14 @@
 // Reading a file record by record into a plant.
 ghost use Rattle.std.specs.Prelude.{◌≡◌, true, []};
-ghost use Rattle.plantformat.specs.Judge.{judge};
+ghost use Rattle.plantformat.specs.Faults.{told};
+ghost use Rattle.plantformat.specs.Rules.{head_keeps};
+ghost use Rattle.plantformat.specs.Judge.{judge, draft};
 ghost use Rattle.answers.specs.Content.{content};
 ghost use Rattle.framing.specs.Frames.{shown};
 ghost use Rattle.records.specs.Parts.{record_part};
-ghost use Rattle.plantfile.specs.Steps.{next_judged, grown, keeps_draft, KeptLimit, Added, opened, Filled};
-ghost use Rattle.plantfile.specs.Promise.{empty_draft, stopped, Judged, Promised};
-ghost use Rattle.plantfile.specs.declared.reading.Stop.TheVariants.{Fault, Memory};
+ghost use Rattle.plantfile.specs.Steps.{next_judged, grown, keeps_draft, KeptLimit, Added, opened, ReadWhole};
+ghost use Rattle.plantfile.specs.Promise.{empty_draft, Judged, Promised};
+ghost use Rattle.plantfile.specs.declared.reading.ReadError.TheVariants.{Refused, NoMemory};
 
 use answers::FilePlant;
 use framing::Parsed;
@@ -17,31 +19,33 @@ use plantformat::{FloorFault, Head, MOST_BYTES};
 use records::{Record, Scope, first_record, next_record};
 use std::alloc::{AllocFailed, Global};
 
-// Why a file is not read to its end: a fault of the file, or want of memory.
-#[derive(Clone, Copy)]
-enum Stop {
-    Fault(FloorFault),
-    Memory,
+// Why a file is not read to its end.
+#[derive(Clone, Copy, Debug, PartialEq, Eq)]
+pub enum ReadError {
+    // The file is no plant file, for this reason.
+    Refused(Refusal),
+    // There was not enough memory to read the file.
+    NoMemory,
 }
 
-impl From<FloorFault> for Stop {
-    ghost from_gives = { λ e r. r ≡ Fault e };
+impl From<FloorFault> for ReadError {
+    ghost from_gives = { λ fault r. r ≡ Refused (told fault) };
 
-    fn from(e: FloorFault) -> Stop {
-        Stop::Fault(e)
+    fn from(fault: FloorFault) -> ReadError {
+        ReadError::Refused(Refusal::from(fault))
     }
 }
 
-impl<T: Drop> From<AllocFailed<T>> for Stop {
-    ghost from_gives = { λ _ r. r ≡ Memory };
+impl<T: Drop> From<AllocFailed<T>> for ReadError {
+    ghost from_gives = { λ _ r. r ≡ NoMemory };
 
-    fn from(_e: AllocFailed<T>) -> Stop {
-        Stop::Memory
+    fn from(_e: AllocFailed<T>) -> ReadError {
+        ReadError::NoMemory
     }
 }
 
 // One limit more behind those that were read: none is dropped, however many there are.
-fn keep_limit<'a>(limits: &mut Vec<Limit<'a>>, limit: Limit<'a>) -> Result<(), Stop>
+fn keep_limit<'a>(limits: &mut Vec<Limit<'a>>, limit: Limit<'a>) -> Result<(), ReadError>
     ensures { KeptLimit limits.old.items limit.entry limits.new.items result }
 {
     limits.push(limit)?;
@@ -49,6 +53,7 @@ fn keep_limit<'a>(limits: &mut Vec<Limit<'a>>, limit: Limit<'a>) -> Result<(), S
 }
 
 // The first record of `bytes`, if it may be added.
+#[tactic(auto, using(crate::proofs::Steps::may_come))]
 fn next_fitting<'a>(
     plant: &FilePlant<'a>,
     bytes: &'a [u8],
@@ -66,7 +71,7 @@ fn next_fitting<'a>(
 }
 
 // One record more.
-fn add<'a>(plant: &mut FilePlant<'a>, record: Record<'a>) -> Result<(), Stop>
+fn add<'a>(plant: &mut FilePlant<'a>, record: Record<'a>) -> Result<(), ReadError>
     requires { keeps_draft (grown (content plant.old) «record») ≡ true }
     ensures { Added (content plant.old) «record».entry (content plant.new) result }
 {
@@ -77,37 +82,31 @@ fn add<'a>(plant: &mut FilePlant<'a>, record: Record<'a>) -> Result<(), Stop>
     Ok(())
 }
 
-// Every record of a file, into an empty plant.
-fn fill<'a>(plant: &mut FilePlant<'a>, file: &'a [u8]) -> Result<(), Stop>
-    requires lanes { plant.old.lanes.items ≡ [] }
-    requires limits { plant.old.limits.items ≡ [] }
-    ensures { Filled (judge file.now) (content plant.new) result }
+// A plant with a head, and no lanes and no limits yet.
+fn bare<'a>(heap: Global, head: Head) -> FilePlant<'a>
+    requires { head_keeps head ≡ true }
+    ensures { content result ≡ draft head [] [] }
 {
-    let first = open_file(file)?;
-    plant.head = first.value;
-    let mut rest = first.rest;
-    while !rest.is_empty() {
-        let next = next_fitting(plant, rest, file.len() - rest.len())?;
-        add(plant, next.value)?;
-        rest = next.rest;
+    FilePlant {
+        head,
+        lanes: Vec::new(heap),
+        limits: Vec::new(heap),
     }
-    Ok(())
 }
 
 // The empty floor: two stations, stock 0, despatch 1, no lane.
+#[tactic(auto, unfolding(plantformat::specs::Rules::head_keeps))]
 fn empty<'a>(heap: Global) -> FilePlant<'a>
-    ensures holds { content result ≡ empty_draft }
-    ensures limits { result.limits.items ≡ [] }
+    ensures { content result ≡ empty_draft }
 {
-    FilePlant {
-        head: Head {
+    bare(
+        heap,
+        Head {
             stations: 2,
             stock: 0,
             despatch: 1,
         },
-        lanes: Vec::new(heap),
-        limits: Vec::new(heap),
-    }
+    )
 }
 
 // The head of a file that is not too long.
@@ -117,27 +116,22 @@ fn open_file<'a>(file: &'a [u8]) -> Result<Parsed<'a, Head>, FloorFault>
     if file.len() > MOST_BYTES {
         return Err(FloorFault::TooMany { at: 0 });
     }
-    let first = first_record(file)?;
-    Ok(first)
+    Ok(first_record(file)?)
 }
 
-// Why there is no plant of a file.
-#[derive(Clone, Copy, Debug, PartialEq, Eq)]
-pub enum ReadError {
-    // The file is no plant file, for this reason.
-    Refused(Refusal),
-    // There was not enough memory to read the file.
-    NoMemory,
-}
-
-// What is said of a file that is not read to its end.
-fn error_of(stop: Stop) -> ReadError
-    ensures { result ≡ stopped stop }
+// The plant of a file that is read to its end.
+fn whole_plant<'a>(heap: Global, file: &'a [u8]) -> Result<FilePlant<'a>, ReadError>
+    ensures { ReadWhole (judge file.now) result }
 {
-    match stop {
-        Stop::Fault(fault) => ReadError::Refused(Refusal::from(fault)),
-        Stop::Memory => ReadError::NoMemory,
+    let first = open_file(file)?;
+    let mut plant = bare(heap, first.value);
+    let mut rest = first.rest;
+    while !rest.is_empty() {
+        let next = next_fitting(&plant, rest, file.len() - rest.len())?;
+        add(&mut plant, next.value)?;
+        rest = next.rest;
     }
+    Ok(plant)
 }
 
 // A file's plant together with the verdict on the file. The plant of a file that is not accepted is the empty floor.
@@ -145,9 +139,8 @@ pub fn read_plant<'a>(heap: Global, file: &'a [u8]) -> (FilePlant<'a>, Result<()
     ensures judged { Judged (judge file.now) (content result.0) result.1 }
     ensures promised { Promised file.now result.0 result.1 }
 {
-    let mut plant = empty(heap);
-    match fill(&mut plant, file) {
-        Ok(()) => (plant, Ok(())),
-        Err(stop) => (empty(heap), Err(error_of(stop))),
+    match whole_plant(heap, file) {
+        Ok(plant) => (plant, Ok(())),
+        Err(error) => (empty(heap), Err(error)),
     }
 }

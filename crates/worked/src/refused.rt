@@ -1,18 +1,15 @@
 // A file for each refusal, with its place and its law.
-use plant::{Plant, Reason, Refusal};
+use plant::{Law, Plant, Reason, Refusal};
 use plantfile::{ReadError, read_plant};
 use std::alloc::Global;
 
 // The file is refused for this reason, at this place, with this law, and its plant is the empty floor.
 fn is_refused(heap: Global, file: &[u8], reason: Reason, place: usize, law: u8) -> bool {
     let (plant, verdict) = read_plant(heap, file);
-    let refusal = Refusal {
-        reason,
-        layer: reason.layer(),
-        place,
-        law,
-    };
-    verdict == Err(ReadError::Refused(refusal)) && plant.stations() == 2 && plant.lanes() == 0
+    verdict == Err(ReadError::Refused(Refusal::new(reason, place)))
+        && reason.law_number() == law
+        && plant.stations() == 2
+        && plant.lanes() == 0
 }
 
 // The last lane lacks a byte.
@@ -103,10 +100,10 @@ fn floors_and_limits(rt: HostRuntime) {
     assert!(rt; is_refused(heap, INTO_THE_STOCK, Reason::Ends, 10, 0));
     assert!(rt; is_refused(heap, NINTH_LANE, Reason::TooMany, 106, 0));
     assert!(rt; is_refused(heap, SECOND_LIMIT, Reason::SecondLimit, 56, 0));
-    assert!(rt; is_refused(heap, LAW_OF_THE_EMPTY_SET, Reason::Law, 34, 1));
-    assert!(rt; is_refused(heap, LAW_OF_GROWTH, Reason::Law, 34, 2));
-    assert!(rt; is_refused(heap, LAW_OF_SHARING, Reason::Law, 34, 3));
-    assert!(rt; is_refused(heap, RISING_GRADES, Reason::Law, 34, 3));
+    assert!(rt; is_refused(heap, LAW_OF_THE_EMPTY_SET, Reason::Law(Law::Empty), 34, 1));
+    assert!(rt; is_refused(heap, LAW_OF_GROWTH, Reason::Law(Law::Grows), 34, 2));
+    assert!(rt; is_refused(heap, LAW_OF_SHARING, Reason::Law(Law::Bends), 34, 3));
+    assert!(rt; is_refused(heap, RISING_GRADES, Reason::Law(Law::Bends), 34, 3));
 }
 
 #[test]

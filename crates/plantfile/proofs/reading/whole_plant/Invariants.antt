@@ -1,7 +1,7 @@
 use Rattle.std.proofs.Common.{◌≡◌, ◌≤◌, length}
 use Rattle.plantformat.specs.Judge.{judge, read_on}
 use Rattle.answers.specs.Content.{content}
-use Rattle.plantfile.proofs.reading.fill.Given as goal
+use Rattle.plantfile.proofs.reading.whole_plant.Given as goal
 
 abbrev pub invariant-loop-rest : goal.invariant-loop-rest
 invariant-loop-rest l =

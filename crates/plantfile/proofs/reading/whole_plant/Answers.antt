@@ -1,16 +1,12 @@
-use Rattle.std.proofs.Common.{◌<◌, length, vec_items, sym, ap, ◌∙◌, arith, false-eqb}
+use Rattle.std.proofs.Common.{◌<◌, length, refl, sym, ap, ◌∙◌, arith, false-eqb}
 use Rattle.std.proofs.lemmas.Result.{err_from_is_err_and}
 use Rattle.plantformat.specs.Judge.{Draft, read_on}
 use Rattle.answers.specs.Content.{content}
-use Rattle.plantfile.proofs.Whole.{opened_keeps, judged_on, fresh_draft, fresh_keeps, stops, grown_keeps, rest_less, read_more}
-use Rattle.plantfile.proofs.reading.fill.Goals as goal
+use Rattle.plantfile.proofs.Whole.{opened_keeps, judged_on, stops, grown_keeps, rest_less, read_more}
+use Rattle.plantfile.proofs.reading.whole_plant.Goals as goal
 
-pub invariant_of-plant : goal.invariant_of-plant
-invariant_of-plant c =
-    let first = c.in_ok-first.first in record {
-      kept = fresh_keeps first.value (vec_items c.args.plant.now.lanes) (vec_items c.args.plant.now.limits) c.requires.lanes c.requires.limits
-          (opened_keeps c.args.file.now first.value first.rest.now (sym c.in_ok-first.ensures)).0;
-    }
+pub bare-plant-requires : goal.bare-plant-requires
+bare-plant-requires c = (opened_keeps c.args.file.now c.in_ok-first.first.value c.in_ok-first.first.rest.now (sym c.in_ok-first.ensures)).0
 
 pub loop-rest-init : goal.loop-rest-init
 loop-rest-init c =
@@ -18,8 +14,7 @@ loop-rest-init c =
     let bs = c.args.file.now in
     let is = sym c.in_ok-first.ensures in (
       judged_on bs first.value first.rest.now is
-          ∙ ap (λ (d : Draft). read_on (length first.rest.now) (length bs) d first.rest.now)
-          (fresh_draft first.value (vec_items c.args.plant.now.lanes) (vec_items c.args.plant.now.limits) c.requires.lanes c.requires.limits),
+          ∙ ap (λ (d : Draft). read_on (length first.rest.now) (length bs) d first.rest.now) (sym c.bare-plant.ensures),
       (opened_keeps bs first.value first.rest.now is).1,
     )
 
@@ -28,10 +23,13 @@ returns-in_err-next c =
     let bs = c.loop-rest.rest.now in
     let h = c.loop-rest-test.ensures in
     let p = err_from_is_err_and c.from_residual-in_err-next.result c.from_residual-in_err-next.ensures.1 in
-    rw (p.1, p.2)
-    (c.loop-rest.invariant.0
-    ∙ stops (length c.args.file.now) (content c.loop-rest.plant) bs (omega (arith, false-eqb (length bs) 0 h)) c.in_err-next.field-0.0
-    (sym c.in_err-next.ensures))
+    rw (p.1, p.2) (
+      c.in_err-next.field-0.0,
+      c.loop-rest.invariant.0
+          ∙ stops (length c.args.file.now) (content c.loop-rest.plant) bs (omega (arith, false-eqb (length bs) 0 h)) c.in_err-next.field-0.0
+          (sym c.in_err-next.ensures),
+      refl,
+    )
 
 pub add-requires : goal.add-requires
 add-requires c =

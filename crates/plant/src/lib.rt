@@ -18,6 +18,8 @@ pub const MOST_STATIONS: usize = 32;
 pub const MOST_LANES: usize = 64;
 // A side has at most this many lanes.
 pub const MOST_ON_SIDE: usize = 8;
+// A side has at most this many sets of lanes.
+pub const MOST_SETS: usize = 1 << MOST_ON_SIDE;
 // No cap of a set of lanes is above this.
 pub const TOP_CAP: u32 = 1_000_000;
 

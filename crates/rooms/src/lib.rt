@@ -14,6 +14,7 @@ ghost use Rattle.polymatroid.specs.Room.{zeroed};
 ghost use Rattle.floor.specs.Numbers.{most_on_side};
 ghost use Rattle.rooms.specs.Rooms.{at, Sums, alone, lowered, share};
 
+use arrayvec::ArrayVec;
 use plant::{MOST_ON_SIDE, MOST_SETS};
 use setcodes::{contains, only};
 use std::array;
@@ -64,49 +65,48 @@ fn lower_rooms(rooms: &mut [u32; MOST_ON_SIDE], set: usize, most: u32)
 }
 
 // A side of a station with trays on it: the cap of every set of its lanes, the trays of each lane, and the trays of every set.
-#[derive(Clone, Copy)]
+#[derive(Drop)]
 pub struct LoadedSide<'a> {
     pub caps: &'a [u32],
-    pub trays: &'a [u32],
+    pub trays: ArrayVec<u32, MOST_ON_SIDE>,
     pub sums: &'a [u64],
     // every set has its cap
-    ghost capped: { length caps.now ≡ 2 ^ length trays.now },
+    ghost capped: { length caps.now ≡ 2 ^ length trays.items },
     // the sums are the trays of every set
-    ghost summed: { Sums trays.now sums.now },
+    ghost summed: { Sums trays.items sums.now },
 }
 
 impl<'a> LoadedSide<'a> {
     // A side with these caps and trays, whose sums are kept in the buffer.
     pub fn new(
         caps: &'a [u32],
-        trays: &'a [u32],
+        trays: ArrayVec<u32, MOST_ON_SIDE>,
         buffer: &'a mut [u64; MOST_SETS],
     ) -> LoadedSide<'a>
-        requires narrow { length trays.now ≤ most_on_side }
-        requires capped { length caps.now ≡ 2 ^ length trays.now }
+        requires { length caps.now ≡ 2 ^ length trays.items }
         ensures caps { result.caps.now ≡ caps.now }
-        ensures trays { result.trays.now ≡ trays.now }
+        ensures trays { result.trays.items ≡ trays.items }
     {
         let sums = &mut buffer[..caps.len()];
-        fill_sums(trays, sums);
+        fill_sums(trays.as_slice(), sums);
         LoadedSide { caps, trays, sums }
     }
 
     // What a set leaves of its cap.
     fn left(&self, set: usize) -> u32
-        requires { set < 2 ^ length self.now.trays.now }
-        ensures { result ≡ left (length self.now.trays.now) (at self.now.caps.now) (at self.now.trays.now) set }
+        requires { set < 2 ^ length self.now.trays.items }
+        ensures { result ≡ left (length self.now.trays.items) (at self.now.caps.now) (at self.now.trays.items) set }
     {
         left_of(self.caps[set], self.sums[set])
     }
 
     // The trays of a set, with those of a position put to 0.
     fn sum_without(&self, set: usize, other: usize) -> u64
-        requires { set < 2 ^ length self.now.trays.now }
-        ensures { result ≡ slice_index self.now.sums.now set - share set self.now.trays.now other }
+        requires { set < 2 ^ length self.now.trays.items }
+        ensures { result ≡ slice_index self.now.sums.now set - share set self.now.trays.items other }
     {
         if other < self.trays.len() && contains(set, other) {
-            self.sums[set].saturating_sub(u64::from(self.trays[other]))
+            self.sums[set].saturating_sub(u64::from(self.trays.as_slice()[other]))
         } else {
             self.sums[set]
         }
@@ -114,16 +114,16 @@ impl<'a> LoadedSide<'a> {
 
     // What a set leaves of its cap with the trays of a position put to 0.
     fn left_without(&self, set: usize, other: usize) -> u32
-        requires { set < 2 ^ length self.now.trays.now }
-        ensures { result ≡ left (length self.now.trays.now) (at self.now.caps.now) (zeroed (at self.now.trays.now) other) set }
+        requires { set < 2 ^ length self.now.trays.items }
+        ensures { result ≡ left (length self.now.trays.items) (at self.now.caps.now) (zeroed (at self.now.trays.items) other) set }
     {
         left_of(self.caps[set], self.sum_without(set, other))
     }
 
     // The least of `most` and of what the sets with a position leave of their caps, with the trays of another position put to 0.
     fn least_left(&self, position: usize, other: usize, most: u32) -> u32
-        requires { position < length self.now.trays.now }
-        ensures { result ≡ fold min most (map (left (length self.now.trays.now) (at self.now.caps.now) (zeroed (at self.now.trays.now) other)) (filter (λ X. has X position) (range_with_len 0 (length self.now.caps.now)))) }
+        requires { position < length self.now.trays.items }
+        ensures { result ≡ fold min most (map (left (length self.now.trays.items) (at self.now.caps.now) (zeroed (at self.now.trays.items) other)) (filter (λ X. has X position) (range_with_len 0 (length self.now.caps.now)))) }
     {
         (0..self.caps.len())
             .filter(|set| contains(*set, position))
@@ -133,8 +133,8 @@ impl<'a> LoadedSide<'a> {
 
     // The room of a position with the trays of another put to 0; one that is not on the side changes nothing.
     pub fn room_without(&self, position: usize, other: usize) -> u32
-        requires on { position < length self.now.trays.now }
-        ensures { result ≡ room (length self.now.trays.now) (at self.now.caps.now) (zeroed (at self.now.trays.now) other) position }
+        requires { position < length self.now.trays.items }
+        ensures { result ≡ room (length self.now.trays.items) (at self.now.caps.now) (zeroed (at self.now.trays.items) other) position }
     {
         let alone = self.left_without(only(position), other);
         self.least_left(position, other, alone)
@@ -142,7 +142,7 @@ impl<'a> LoadedSide<'a> {
 
     // What a position alone leaves of its cap, and 0 past the side's lanes.
     fn left_alone(&self, position: usize) -> u32
-        ensures { result ≡ alone (length self.now.trays.now) (at self.now.caps.now) (at self.now.trays.now) position }
+        ensures { result ≡ alone (length self.now.trays.items) (at self.now.caps.now) (at self.now.trays.items) position }
     {
         if position < self.trays.len() {
             self.left(only(position))
@@ -153,15 +153,15 @@ impl<'a> LoadedSide<'a> {
 
     // What each position alone leaves of its cap, and 0 past the side's lanes.
     fn each_alone(&self) -> [u32; MOST_ON_SIDE]
-        ensures { (p : ℕ) → p < most_on_side → slice_index result p ≡ alone (length self.now.trays.now) (at self.now.caps.now) (at self.now.trays.now) p }
+        ensures { (p : ℕ) → p < most_on_side → slice_index result p ≡ alone (length self.now.trays.items) (at self.now.caps.now) (at self.now.trays.items) p }
     {
         array::from_fn(|position| self.left_alone(position))
     }
 
     // The rooms of all positions, from one round over the sets; the places past the side's lanes hold 0.
     pub fn rooms(&self) -> [u32; MOST_ON_SIDE]
-        ensures each { (p : ℕ) → p < length self.now.trays.now → slice_index result p ≡ room (length self.now.trays.now) (at self.now.caps.now) (at self.now.trays.now) p }
-        ensures past { (p : ℕ) → length self.now.trays.now ≤ p → slice_index result p ≡ 0 }
+        ensures each { (p : ℕ) → p < length self.now.trays.items → slice_index result p ≡ room (length self.now.trays.items) (at self.now.caps.now) (at self.now.trays.items) p }
+        ensures past { (p : ℕ) → length self.now.trays.items ≤ p → slice_index result p ≡ 0 }
     {
         let mut rooms = self.each_alone();
         for set in 0..self.caps.len() {

@@ -1,11 +1,12 @@
 -- The rows that are read of tables.
-use Rattle.std.proofs.Common.{◌≡◌, ℕ, ◌*◌, ◌<◌, ◌≤◌, Bool, [], length, get_or, vec_items, vec_len, sym, ap, ◌∙◌, arith}
+use Rattle.std.proofs.Common.{◌≡◌, ℕ, ◌*◌, ◌<◌, ◌≤◌, Bool, [], length, get_or, vec_items, vec_len, sym, refl, ap, ◌∙◌, arith}
 use mathlib.Core.Path.{subst⁻¹}
 use Rattle.std.proofs.lemmas.List.{get_or_read, get_or-map}
-use Rattle.floor.specs.Floor.{end_of, station_of, width}
+use Rattle.std.proofs.lemmas.Bool.{eq-eqb}
+use Rattle.floor.specs.Floor.{end_of, station_of, count, width}
 use Rattle.floor.specs.Numbers.{most_on_side}
-use Rattle.floor.proofs.Places.{lane_at_below}
-use Rattle.tables.specs.Parts.{end_in, lanes_in}
+use Rattle.floor.proofs.Places.{lane_at_below, place_below}
+use Rattle.tables.specs.Parts.{end_in, lane_in, lanes_in}
 use Rattle.tables.specs.Tables.{meaning_in}
 use Rattle.tables.specs.declared.tables.Tables.{Tables}
 use Rattle.tables.specs.declared.tables.TableLane.{TableLane}
@@ -17,6 +18,17 @@ pub station_on : (t : Tables) (d : Bool) (e : ℕ) (row : TableLane) → row ≡
 station_on t d e row r l =
     subst⁻¹ (λ (v : TableLane). (end_in d v).station < t.stations) (get_or_read (vec_items t.lanes) e row (omega (arith, t.lanes.ok.0)) r _)
     (t.ends_on d e l)
+
+-- a lane has its position among those of the side where it ends
+pub position_on : (t : Tables) (d : Bool) (e : ℕ) (row : TableLane) → row ≡ get_or (vec_items t.lanes) e row → e < vec_len t.lanes
+    → (end_in d row).position < count (meaning_in t).floor d ((meaning_in t).floor.end d e)
+position_on t d e row r l =
+    let F = (meaning_in t).floor in
+    let i = F.end d e in
+    let low : e < F.lanes = omega (arith, t.lanes.ok.0) in
+    let held : (end_in d (lane_in (vec_items t.lanes) e)).position < count F d i =
+    omega (arith, t.ends_placed d e l, place_below F d i e low (eq-eqb i i refl)) in
+    subst⁻¹ (λ (v : TableLane). (end_in d v).position < count F d i) (get_or_read (vec_items t.lanes) e row low r _) held
 
 lanes_read : (t : Tables) (s : ℕ) (row : TableSide) → row ≡ get_or (vec_items t.sides) s row → s < 2 * t.stations
     → vec_items row.lanes ≡ lanes_in (vec_items t.sides) s

@@ -1,7 +1,7 @@
 // What a plant answers, in tables.
 ghost use Rattle.std.specs.Prelude.{◌≡◌, ℕ, ◌*◌, ◌^◌, ◌<◌, ◌≤◌, Bool, length, vec_len, slice_index};
 ghost use Rattle.floor.specs.Numbers.{most_stations, most_lanes, most_on_side};
-ghost use Rattle.floor.specs.Floor.{side as side_number, end_of, station_of, place, lane_at, width as side_width};
+ghost use Rattle.floor.specs.Floor.{side as side_number, end_of, station_of, place, count, lane_at, width as side_width};
 ghost use Rattle.tables.specs.Parts.{end_in, lane_in, lanes_in, caps_in, table_floor};
 
 // An end of a lane: the station there, and the position of the lane among those of the station's side.
@@ -95,9 +95,11 @@ impl Tables {
     }
 
     // The position of a lane at that side.
+    #[tactic(auto, using(crate::proofs::Rows::position_on))]
     pub fn position_of(&self, lane: usize, entering: bool) -> usize
         requires { lane < vec_len self.now.lanes }
-        ensures { result ≡ place (meaning_in self.now).floor entering ((meaning_in self.now).floor.end entering lane) lane }
+        ensures is { result ≡ place (meaning_in self.now).floor entering ((meaning_in self.now).floor.end entering lane) lane }
+        ensures on { result < count (meaning_in self.now).floor entering ((meaning_in self.now).floor.end entering lane) }
     {
         self.lanes[lane].end(entering).position
     }

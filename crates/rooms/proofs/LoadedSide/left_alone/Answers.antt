@@ -3,4 +3,4 @@ use Rattle.std.proofs.lemmas.Nat.{pow_below}
 use Rattle.rooms.proofs.LoadedSide.left_alone.Goals as goal
 
 pub left-requires : goal.left-requires
-left-requires c = omega (arith, c.only.ensures, pow_below c.args.position (length c.args.self.now.trays.now) c.if-position-self.true)
+left-requires c = omega (arith, c.only.ensures, pow_below c.args.position (length c.args.self.now.trays.items) (omega arith))

@@ -11,5 +11,5 @@ returns c =
       c.left_of.ensures,
       c.sum_without.ensures,
       side.summed.each c.args.set c.requires,
-      load_zeroed (at side.trays.now) c.args.other (length side.trays.now) c.args.set,
+      load_zeroed (at side.trays.items) c.args.other (length side.trays.items) c.args.set,
     )

@@ -4,4 +4,4 @@ use Rattle.rooms.proofs.Rounds.{Roomed}
 use Rattle.rooms.proofs.LoadedSide.rooms.Given as goal
 
 abbrev pub invariant-loop-set : goal.invariant-loop-set
-invariant-loop-set l = Roomed (length l.self.trays.now) (at l.self.caps.now) (at l.self.trays.now) l.rooms l.set
+invariant-loop-set l = Roomed (length l.self.trays.items) (at l.self.caps.now) (at l.self.trays.items) l.rooms l.set

@@ -1,5 +1,3 @@
 pub mod ByRooms
-pub mod Rows
 pub mod SideRooms
-pub mod Putting
 pub mod Measured

@@ -1,149 +1,119 @@
 // What is measured of the trays on a floor: how much room each lane has at its two sides, and how much it would have if another
 // lane carried no trays. Each question goes once over the sets of one side.
-ghost use Rattle.std.specs.Prelude.{◌≡◌, ℕ, ◌*◌, ◌<◌, ◌≤◌, length, vec_len, slice_index};
-ghost use Rattle.floor.specs.Numbers.{most_stations, most_on_side};
-ghost use Rattle.floor.specs.Floor.{side, width, end_of, station_of, place};
+ghost use Rattle.std.specs.Prelude.{◌≡◌, ℕ, ◌+◌, ◌*◌, ◌^◌, ◌<◌, ◌≤◌, length, vec_len, slice_index};
+ghost use Rattle.floor.specs.Numbers.{most_on_side};
+ghost use Rattle.floor.specs.Floor.{width, end_of, station_of};
 ghost use Rattle.network.specs.Plans.{trays as trays_on};
 ghost use Rattle.rooms.specs.Rooms.{at};
 ghost use Rattle.tables.specs.Tables.{meaning_in};
-ghost use Rattle.measures.specs.ByRooms.{room_at, room_zeroing};
-ghost use Rattle.measures.specs.Measures.{Row, Put, position_room};
+ghost use Rattle.measures.specs.ByRooms.{room_zeroing};
+ghost use Rattle.measures.specs.Measures.{Measured, MeasuredBelow, OfSide, Put, position_room, position_zeroing};
 
-use plant::MOST_ON_SIDE;
-use rooms::{fill_rooms, fill_sums, room_without};
-use tables::{TableSide, Tables};
+use crate::lane_rooms::LaneRooms;
+use arrayvec::ArrayVec;
+use plant::{MOST_ON_SIDE, MOST_SETS};
+use rooms::LoadedSide;
+use tables::LoadedFloor;
 
-// A side has at most so many sets.
-const MOST_SETS: usize = 1 << MOST_ON_SIDE;
-
-// A side of the floor: how many lanes it has, and their numbers by position.
-fn side_row(tables: &Tables, side: usize) -> TableSide
-    requires { side < 2 * tables.now.stations }
-    ensures { Row tables.now side result }
+// The trays at the positions of a side.
+pub fn trays_on_side(floor: &LoadedFloor, side: usize) -> ArrayVec<u32, MOST_ON_SIDE>
+    requires { side < 2 * floor.now.tables.now.stations }
+    ensures all { length result.items ≡ width (meaning_in floor.now.tables.now).floor side }
+    ensures each { (p : ℕ) → p < width (meaning_in floor.now.tables.now).floor side → slice_index result.items p ≡ trays_on (meaning_in floor.now.tables.now) (at floor.now.trays.now) (end_of side) (station_of side) p }
+    ensures past { (p : ℕ) → width (meaning_in floor.now.tables.now).floor side ≤ p → slice_index result.items p ≡ 0 }
 {
-    tables.sides[side]
-}
-
-// The trays at the positions of a side; the places past its lanes hold 0.
-pub fn trays_on_side(tables: &Tables, trays: &[u32], side: usize) -> [u32; MOST_ON_SIDE]
-    requires side { side < 2 * tables.now.stations }
-    requires trays { length trays.now ≡ vec_len tables.now.lanes }
-    ensures each { (p : ℕ) → p < width (meaning_in tables.now).floor side → slice_index result p ≡ trays_on (meaning_in tables.now) (at trays.now) (end_of side) (station_of side) p }
-    ensures past { (p : ℕ) → width (meaning_in tables.now).floor side ≤ p → slice_index result p ≡ 0 }
-{
-    let row = side_row(tables, side);
-    let mut on = [0; MOST_ON_SIDE];
-    for position in 0..row.width {
-        on[position] = trays[row.numbers[position]];
+    let mut trays = ArrayVec::new();
+    for lane in floor.tables.lanes_of(side) {
+        trays.push(floor.trays[*lane]);
     }
-    on
+    trays
 }
 
-// The side of a station where lanes enter it, or where they leave it.
-fn side_at(station: usize, entering: bool) -> usize
-    requires { station < most_stations }
-    ensures { result ≡ side entering station }
+// A side of the floor with its trays, and the trays of every set of its lanes, which are kept in the buffer.
+pub fn load_side<'a>(
+    floor: &'a LoadedFloor,
+    side: usize,
+    buffer: &'a mut [u64; MOST_SETS],
+) -> LoadedSide<'a>
+    requires { side < 2 * floor.now.tables.now.stations }
+    ensures { OfSide (meaning_in floor.now.tables.now) (at floor.now.trays.now) side result.caps.now result.trays.items }
 {
-    2 * station + usize::from(entering)
+    let caps = floor.tables.caps_of(side);
+    LoadedSide::new(caps, trays_on_side(floor, side), buffer)
 }
 
-// The side of a lane where it enters a station, or where it leaves one.
-fn side_of(tables: &Tables, lane: usize, entering: bool) -> usize
-    requires { lane < vec_len tables.now.lanes }
-    ensures is { result ≡ side entering ((meaning_in tables.now).floor.end entering lane) }
-    ensures on { result < 2 * tables.now.stations }
+// The room of a position of a side, with the trays of another put to 0.
+fn room_on_side(floor: &LoadedFloor, side: usize, position: usize, other: usize) -> u32
+    requires side { side < 2 * floor.now.tables.now.stations }
+    requires on { position < width (meaning_in floor.now.tables.now).floor side }
+    ensures { result ≡ position_zeroing (meaning_in floor.now.tables.now) (at floor.now.trays.now) (end_of side) (station_of side) position other }
 {
-    let row = tables.lanes[lane];
-    if entering {
-        2 * row.to + 1
-    } else {
-        2 * row.from
-    }
-}
-
-// The position of a lane at that side.
-fn position_of(tables: &Tables, lane: usize, entering: bool) -> usize
-    requires { lane < vec_len tables.now.lanes }
-    ensures { result ≡ place (meaning_in tables.now).floor entering ((meaning_in tables.now).floor.end entering lane) lane }
-{
-    let row = tables.lanes[lane];
-    if entering {
-        row.in_position
-    } else {
-        row.out_position
-    }
+    let mut sums = [0; MOST_SETS];
+    load_side(floor, side, &mut sums).room_without(position, other)
 }
 
 // The room of a lane at one of its ends, with the trays of another lane at the same side put to 0.
-pub fn room_zeroing(
-    tables: &Tables,
-    trays: &[u32],
-    entering: bool,
-    lane: usize,
-    other: usize,
-) -> u32
-    requires trays { length trays.now ≡ vec_len tables.now.lanes }
-    requires lane { lane < vec_len tables.now.lanes }
-    requires other { other < vec_len tables.now.lanes }
-    requires beside { (meaning_in tables.now).floor.end entering other ≡ (meaning_in tables.now).floor.end entering lane }
-    ensures { result ≡ room_zeroing (meaning_in tables.now) (at trays.now) entering lane other }
+#[tactic(auto, using(crate::proofs::SideRooms::zeroing_is, floor::proofs::Places::end_of_side, floor::proofs::Places::station_of_side))]
+pub fn room_zeroing(floor: &LoadedFloor, entering: bool, lane: usize, other: usize) -> u32
+    requires lane { lane < vec_len floor.now.tables.now.lanes }
+    requires other { other < vec_len floor.now.tables.now.lanes }
+    requires beside { (meaning_in floor.now.tables.now).floor.end entering other ≡ (meaning_in floor.now.tables.now).floor.end entering lane }
+    ensures { result ≡ room_zeroing (meaning_in floor.now.tables.now) (at floor.now.trays.now) entering lane other }
 {
-    let side = side_of(tables, lane, entering);
-    let caps = tables.caps_of(side);
-    let places = trays_on_side(tables, trays, side);
-    let on = &places[..side_row(tables, side).width];
-    let mut sets = [0; MOST_SETS];
-    let sums = &mut sets[..caps.len()];
-    fill_sums(on, sums);
-    room_without(
-        caps,
-        sums,
-        on,
-        position_of(tables, lane, entering),
-        position_of(tables, other, entering),
+    room_on_side(
+        floor,
+        floor.tables.side_of(lane, entering),
+        floor.tables.position_of(lane, entering),
+        floor.tables.position_of(other, entering),
     )
 }
 
-// The room of each position of a side.
-fn rooms_on_side(tables: &Tables, trays: &[u32], side: usize) -> [u32; MOST_ON_SIDE]
-    requires side { side < 2 * tables.now.stations }
-    requires trays { length trays.now ≡ vec_len tables.now.lanes }
-    ensures { (p : ℕ) → p < width (meaning_in tables.now).floor side → slice_index result p ≡ position_room (meaning_in tables.now) (at trays.now) (end_of side) (station_of side) p }
+// The rooms at the positions of a side.
+fn rooms_on_side(floor: &LoadedFloor, side: usize) -> [u32; MOST_ON_SIDE]
+    requires { side < 2 * floor.now.tables.now.stations }
+    ensures { (p : ℕ) → p < width (meaning_in floor.now.tables.now).floor side → slice_index result p ≡ position_room (meaning_in floor.now.tables.now) (at floor.now.trays.now) (end_of side) (station_of side) p }
 {
-    let caps = tables.caps_of(side);
-    let places = trays_on_side(tables, trays, side);
-    let on = &places[..side_row(tables, side).width];
-    let mut sets = [0; MOST_SETS];
-    let sums = &mut sets[..caps.len()];
-    fill_sums(on, sums);
-    let mut rooms = [0; MOST_ON_SIDE];
-    fill_rooms(caps, sums, on, &mut rooms[..on.len()]);
-    rooms
+    let mut sums = [0; MOST_SETS];
+    load_side(floor, side, &mut sums).rooms()
 }
 
-// Puts what is at the positions of a side at the numbers of its lanes.
-fn put_by_lane(row: &TableSide, on: &[u32; MOST_ON_SIDE], lanes: &mut [u32])
-    requires few { row.now.width ≤ most_on_side }
-    requires there { (p : ℕ) → p < row.now.width → slice_index row.now.numbers p < length lanes.old }
-    requires apart { (p q : ℕ) → p < row.now.width → q < row.now.width → slice_index row.now.numbers p ≡ slice_index row.now.numbers q → p ≡ q }
-    ensures { Put row.now.numbers on.now lanes.old lanes.new row.now.width }
+// Puts the rooms at the positions of a side at the numbers of its lanes, where these enter a station, or where they leave one.
+fn put_by_lane(lanes: &[usize], on: &[u32; MOST_ON_SIDE], entering: bool, rooms: &mut [LaneRooms])
+    requires few { length lanes.now ≤ most_on_side }
+    requires there { (p : ℕ) → p < length lanes.now → slice_index lanes.now p < length rooms.old }
+    requires apart { (p q : ℕ) → p < length lanes.now → q < length lanes.now → slice_index lanes.now p ≡ slice_index lanes.now q → p ≡ q }
+    ensures { Put entering lanes.now on.now rooms.old rooms.new (length lanes.now) }
 {
-    for position in 0..row.width {
-        lanes[row.numbers[position]] = on[position];
+    for (lane, room) in lanes.iter().zip(on) {
+        rooms[*lane] = rooms[*lane].with(entering, *room);
     }
 }
 
-// The room of every lane at one of its ends, from one round over the sets of each side.
-pub fn measure(tables: &Tables, trays: &[u32], entering: bool, rooms: &mut [u32])
-    requires trays { length trays.now ≡ vec_len tables.now.lanes }
-    requires rooms { length rooms.old ≡ vec_len tables.now.lanes }
-    ensures all { length rooms.new ≡ length rooms.old }
-    ensures each { (e : ℕ) → e < vec_len tables.now.lanes → slice_index rooms.new e ≡ room_at (meaning_in tables.now) (at trays.now) entering e }
+// Whether the lanes of a side enter its station.
+fn lanes_enter(side: usize) -> bool
+    ensures { result ≡ end_of side }
 {
-    for station in 0..tables.stations {
-        let side = side_at(station, entering);
-        let row = side_row(tables, side);
-        let on = rooms_on_side(tables, trays, side);
-        put_by_lane(&row, &on, rooms);
+    side % 2 == 1
+}
+
+// Measures the rooms at a side.
+fn measure_side(floor: &LoadedFloor, side: usize, rooms: &mut [LaneRooms])
+    requires side { side < 2 * floor.now.tables.now.stations }
+    requires rooms { length rooms.old ≡ vec_len floor.now.tables.now.lanes }
+    requires below { MeasuredBelow (meaning_in floor.now.tables.now) (at floor.now.trays.now) rooms.old side }
+    ensures all { length rooms.new ≡ length rooms.old }
+    ensures more { MeasuredBelow (meaning_in floor.now.tables.now) (at floor.now.trays.now) rooms.new (side + 1) }
+{
+    let on = rooms_on_side(floor, side);
+    put_by_lane(floor.tables.lanes_of(side), &on, lanes_enter(side), rooms);
+}
+
+// The room of every lane at both its ends, from one round over the sets of each side.
+pub fn measure(floor: &LoadedFloor, rooms: &mut [LaneRooms])
+    requires { length rooms.old ≡ vec_len floor.now.tables.now.lanes }
+    ensures { Measured floor.now.tables.now floor.now.trays.now rooms.new }
+{
+    for side in 0..2 * floor.tables.stations {
+        measure_side(floor, side, rooms);
     }
 }

@@ -3,8 +3,10 @@
 
 ghost use Rattle.measures.specs.ByRooms.{RoomsRule, RoomsLabel, RoomsBeside};
 
+mod lane_rooms;
 mod lanes;
 
+pub use lane_rooms::LaneRooms;
 pub use lanes::{measure, room_zeroing, trays_on_side};
 
 // The labels that a scanned lane gives follow from rooms alone.

@@ -1,3 +1,4 @@
 pub mod Agreeing
 pub mod Telling
 pub mod Holding
+pub mod Rows

@@ -3,28 +3,32 @@
 // has them never needs to ask the plant again.
 #![tactic(auto)]
 
-ghost use Rattle.std.specs.Prelude.{◌≡◌, ℕ, ◌+◌, ◌*◌, ◌^◌, ◌<◌, ◌≤◌, ◌++◌, length, IfOk, vec_len, OnOk, ◌≢◌, slice_index};
-ghost use Rattle.floor.specs.Numbers.{most_stations, most_on_side};
-ghost use Rattle.floor.specs.Floor.{leaving, entering, sides as all_sides, side as side_number, width as side_width, end_of, station_of, lane_at};
+ghost use Rattle.std.specs.Prelude.{◌≡◌, ℕ, ◌+◌, ◌*◌, ◌^◌, ◌<◌, ◌≤◌, length, slice_index, IfOk, Contains};
+ghost use Rattle.floor.specs.Numbers.{most_stations};
+ghost use Rattle.floor.specs.Floor.{leaving, entering, sides as all_sides, side as side_number};
 ghost use Rattle.tables.specs.Agreement.{Agrees};
-ghost use Rattle.tables.specs.Parts.{side_in};
+ghost use Rattle.tables.specs.Parts.{lanes_in};
 ghost use Rattle.tables.specs.Tables.{meaning_in};
-ghost use Rattle.tables.specs.Told.{caps_on, SideTold, SidesTold, SidesCapped, LaneTold, LanesTold};
+ghost use Rattle.tables.specs.Told.{SidesTold, lane_told, lanes_told};
 
-use plant::{MOST_ON_SIDE, Plant};
+use crate::asking::PlantSide;
+use crate::tables::side_at;
+use plant::Plant;
 use std::alloc::{AllocError, Global};
 
+mod asking;
+mod loaded;
 mod tables;
 
-pub use tables::{TableLane, TableSide, Tables};
+pub use loaded::LoadedFloor;
+pub use tables::{LaneEnd, TableLane, TableSide, Tables};
 
 // All that a plant answers.
 pub fn tabulate<P: Plant>(heap: Global, plant: &P) -> Result<Tables, AllocError>
     ensures { IfOk result (λ t. Agrees (P.meaning plant.now) (meaning_in t)) }
 {
     let stations = plant.stations();
-    let mut caps = Vec::new(heap);
-    let sides = table_sides(heap, plant, stations, &mut caps)?;
+    let sides = table_sides(heap, plant, stations)?;
     let lanes = table_lanes(heap, plant, sides.as_slice())?;
     Ok(Tables {
         stations,
@@ -32,136 +36,23 @@ pub fn tabulate<P: Plant>(heap: Global, plant: &P) -> Result<Tables, AllocError>
         despatch: plant.despatch(),
         lanes,
         sides,
-        caps,
     })
 }
 
-impl Tables {
-    // The caps of the sets of a side's lanes, in the order of their codes.
-    pub fn caps_of(&self, side: usize) -> &[u32]
-        requires { side < 2 * self.now.stations }
-        ensures all { length result.now ≡ 2 ^ side_width (meaning_in self.now).floor side }
-        ensures each { (X : ℕ) → X < 2 ^ side_width (meaning_in self.now).floor side → slice_index result.now X ≡ (meaning_in self.now).cap (end_of side) (station_of side) X }
-    {
-        let row = self.row_of(side);
-        part(self.caps.as_slice(), row.start, sets_of(row.width))
-    }
-
-    // The row of a side.
-    fn row_of(&self, side: usize) -> TableSide
-        requires { side < 2 * self.now.stations }
-        ensures start { result.start ≡ (side_in self.now.sides.items (side_number (end_of side) (station_of side))).start }
-        ensures all { result.width ≡ side_width (meaning_in self.now).floor side }
-        ensures few { result.width ≤ most_on_side }
-        ensures held { result.start + 2 ^ result.width ≤ vec_len self.now.caps }
-    {
-        self.sides[side]
-    }
-}
-
-// How many sets of lanes a side of this width has.
-fn sets_of(width: usize) -> usize
-    requires { width ≤ most_on_side }
-    ensures { result ≡ 2 ^ width }
-{
-    1 << width
-}
-
-// The numbers from `start` on, as many as `count`.
-fn part(numbers: &[u32], start: usize, count: usize) -> &[u32]
-    requires { start + count ≤ length numbers.now }
-    ensures all { length result.now ≡ count }
-    ensures each { (k : ℕ) → k < count → slice_index result.now k ≡ slice_index numbers.now (start + k) }
-{
-    let end = start + count;
-    &numbers[start..end]
-}
-
-// The row of each side. The caps of the sides are added to `caps`, one side after another.
+// The row of each side.
 fn table_sides<P: Plant>(
     heap: Global,
     plant: &P,
     stations: usize,
-    caps: &mut Vec<u32>,
 ) -> Result<Vec<TableSide>, AllocError>
     requires { stations ≡ (P.meaning plant.now).floor.stations }
-    ensures told { IfOk result (λ v. SidesTold (P.meaning plant.now).floor (all_sides (P.meaning plant.now).floor) v.items) }
-    ensures capped { IfOk result (λ v. SidesCapped (P.meaning plant.now) (all_sides (P.meaning plant.now).floor) v.items caps.new.items) }
+    ensures { IfOk result (λ v. SidesTold (P.meaning plant.now) (all_sides (P.meaning plant.now).floor) v.items) }
 {
     let mut sides = Vec::new(heap);
     for side in 0..2 * stations {
-        let row = add_side(plant, side, caps)?;
-        sides.push(row)?;
+        sides.push(PlantSide::new(plant, side).table(heap)?)?;
     }
     Ok(sides)
-}
-
-// The row of a side, whose caps are added to `caps`.
-fn add_side<P: Plant>(plant: &P, side: usize, caps: &mut Vec<u32>) -> Result<TableSide, AllocError>
-    requires { side < all_sides (P.meaning plant.now).floor }
-    ensures lanes { IfOk result (λ row. SideTold (P.meaning plant.now).floor side row) }
-    ensures start { IfOk result (λ row. row.start ≡ length caps.old.items) }
-    ensures caps { OnOk result (caps.new.items ≡ caps.old.items ++ caps_on (P.meaning plant.now) side) }
-{
-    let width = width_of(plant, side);
-    let numbers = lane_numbers(plant, side, width);
-    let start = caps.len();
-    add_caps(plant, side, width, caps)?;
-    Ok(TableSide {
-        width,
-        numbers,
-        start,
-    })
-}
-
-// How many lanes a side has.
-fn width_of<P: Plant>(plant: &P, side: usize) -> usize
-    requires { side < all_sides (P.meaning plant.now).floor }
-    ensures all { result ≡ side_width (P.meaning plant.now).floor side }
-    ensures few { result ≤ most_on_side }
-{
-    plant.width(side).unwrap()
-}
-
-// The numbers of the lanes of a side, by position.
-fn lane_numbers<P: Plant>(plant: &P, side: usize, width: usize) -> [usize; MOST_ON_SIDE]
-    requires on_floor { side < all_sides (P.meaning plant.now).floor }
-    requires all { width ≡ side_width (P.meaning plant.now).floor side }
-    requires few { width ≤ most_on_side }
-    ensures { (p : ℕ) → p < width → slice_index result p ≡ lane_at (P.meaning plant.now).floor (end_of side) (station_of side) p }
-{
-    let mut numbers = [0; MOST_ON_SIDE];
-    for position in 0..width {
-        numbers[position] = plant.lane_at(side, position).unwrap();
-    }
-    numbers
-}
-
-// Adds the caps of the sets of a side's lanes, in the order of their codes.
-fn add_caps<P: Plant>(
-    plant: &P,
-    side: usize,
-    width: usize,
-    caps: &mut Vec<u32>,
-) -> Result<(), AllocError>
-    requires on_floor { side < all_sides (P.meaning plant.now).floor }
-    requires all { width ≡ side_width (P.meaning plant.now).floor side }
-    requires few { width ≤ most_on_side }
-    ensures { OnOk result (caps.new.items ≡ caps.old.items ++ caps_on (P.meaning plant.now) side) }
-{
-    for set in 0..sets_of(width) {
-        caps.push(cap_at(plant, side, set))?;
-    }
-    Ok(())
-}
-
-// The cap of a set of a side's lanes.
-fn cap_at<P: Plant>(plant: &P, side: usize, set: usize) -> u32
-    requires on_floor { side < all_sides (P.meaning plant.now).floor }
-    requires there { set < 2 ^ side_width (P.meaning plant.now).floor side }
-    ensures { result ≡ (P.meaning plant.now).cap (end_of side) (station_of side) set }
-{
-    plant.cap(side, set).unwrap()
 }
 
 // The row of each lane.
@@ -170,30 +61,24 @@ fn table_lanes<P: Plant>(
     plant: &P,
     sides: &[TableSide],
 ) -> Result<Vec<TableLane>, AllocError>
-    requires { SidesTold (P.meaning plant.now).floor (all_sides (P.meaning plant.now).floor) sides.now }
-    ensures { IfOk result (λ v. LanesTold (P.meaning plant.now).floor (P.meaning plant.now).floor.lanes v.items) }
+    requires { SidesTold (P.meaning plant.now) (all_sides (P.meaning plant.now).floor) sides.now }
+    ensures { IfOk result (λ v. v.items ≡ lanes_told (P.meaning plant.now).floor (P.meaning plant.now).floor.lanes) }
 {
-    let mut lanes = Vec::new(heap);
-    for lane in 0..plant.lanes() {
-        lanes.push(table_lane(plant, sides, lane))?;
-    }
-    Ok(lanes)
+    (0..plant.lanes())
+        .map(|lane| table_lane(plant, sides, lane))
+        .collect(heap)
 }
 
-// The row of a lane: its position at a side is found among the side's lanes.
+// The row of a lane.
 fn table_lane<P: Plant>(plant: &P, sides: &[TableSide], lane: usize) -> TableLane
     requires on_floor { lane < (P.meaning plant.now).floor.lanes }
-    requires told { SidesTold (P.meaning plant.now).floor (all_sides (P.meaning plant.now).floor) sides.now }
-    ensures { LaneTold (P.meaning plant.now).floor lane result }
+    requires told { SidesTold (P.meaning plant.now) (all_sides (P.meaning plant.now).floor) sides.now }
+    ensures { result ≡ lane_told (P.meaning plant.now).floor lane }
 {
     let (from, to) = lane_ends(plant, lane);
-    let out_position = position_of(sides[2 * from], lane);
-    let in_position = position_of(sides[2 * to + 1], lane);
     TableLane {
-        from,
-        to,
-        out_position,
-        in_position,
+        leaving: lane_end(sides, lane, from, false),
+        entering: lane_end(sides, lane, to, true),
     }
 }
 
@@ -208,17 +93,27 @@ fn lane_ends<P: Plant>(plant: &P, lane: usize) -> (usize, usize)
     plant.ends(lane).unwrap()
 }
 
-// The position of a lane among those of a side, or their number if it is none of them.
-fn position_of(side: TableSide, lane: usize) -> usize
-    requires { side.width ≤ most_on_side }
-    ensures within { result ≤ side.width }
-    ensures found { result < side.width → slice_index side.numbers result ≡ lane }
-    ensures before { (p : ℕ) → p < result → slice_index side.numbers p ≢ lane }
+// The end of a lane at a station: its position is found among the lanes of the side there.
+fn lane_end(sides: &[TableSide], lane: usize, station: usize, entering: bool) -> LaneEnd
+    requires few { station < most_stations }
+    requires on { side_number entering station < length sides.now }
+    requires there { Contains (lanes_in sides.now (side_number entering station)) lane }
+    ensures station { result.station ≡ station }
+    ensures within { result.position < length (lanes_in sides.now (side_number entering station)) }
+    ensures found { slice_index (lanes_in sides.now (side_number entering station)) result.position ≡ lane }
 {
-    for position in 0..side.width {
-        if side.numbers[position] == lane {
-            return position;
-        }
+    let lanes = sides[side_at(station, entering)].lanes.as_slice();
+    LaneEnd {
+        station,
+        position: position_in(lanes, lane),
     }
-    side.width
+}
+
+// The position of a lane that is among those of a side.
+fn position_in(lanes: &[usize], lane: usize) -> usize
+    requires { Contains lanes.now lane }
+    ensures within { result < length lanes.now }
+    ensures found { slice_index lanes.now result ≡ lane }
+{
+    lanes.iter().position(|other| *other == lane).unwrap()
 }

@@ -1,29 +1,31 @@
 // What a plant answers, in tables.
-ghost use Rattle.std.specs.Prelude.{◌≡◌, ℕ, ◌+◌, ◌*◌, ◌^◌, ◌<◌, ◌≤◌, vec_len, slice_index};
+ghost use Rattle.std.specs.Prelude.{◌≡◌, ℕ, ◌*◌, ◌^◌, ◌<◌, ◌≤◌, Bool, length, vec_len, slice_index};
 ghost use Rattle.floor.specs.Numbers.{most_stations, most_lanes, most_on_side};
-ghost use Rattle.floor.specs.Floor.{leaving, entering, end_of, station_of, place, lane_at, width as side_width};
-ghost use Rattle.tables.specs.Parts.{lane_in, side_in, table_floor};
+ghost use Rattle.floor.specs.Floor.{side as side_number, end_of, station_of, place, count, lane_at, width as side_width};
+ghost use Rattle.tables.specs.Parts.{end_in, lane_in, lanes_in, caps_in, table_floor};
 
-use plant::MOST_ON_SIDE;
+// An end of a lane: the station there, and the position of the lane among those of the station's side.
+#[derive(Clone, Copy)]
+pub struct LaneEnd {
+    pub station: usize,
+    pub position: usize,
+}
 
-// A lane: its stations, and its position at the out side and at the in side.
+// A lane: the end where it leaves a station, and the end where it enters one.
 #[derive(Clone, Copy)]
 pub struct TableLane {
-    pub from: usize,
-    pub to: usize,
-    pub out_position: usize,
-    pub in_position: usize,
+    pub leaving: LaneEnd,
+    pub entering: LaneEnd,
 }
 
-// A side: how many lanes it has, their numbers by position, and where its caps begin.
-#[derive(Clone, Copy)]
+// A side: the numbers of its lanes by position, and the caps of the sets of its lanes in the order of their codes.
+#[derive(Drop)]
 pub struct TableSide {
-    pub width: usize,
-    pub numbers: [usize; MOST_ON_SIDE],
-    pub start: usize,
+    pub lanes: Vec<usize>,
+    pub caps: Vec<u32>,
 }
 
-// The stations, the lanes in lane order, the sides in side order, and the caps, those of each side in the order of the codes.
+// The stations, the lanes in lane order, and the sides in side order.
 #[derive(Drop)]
 pub struct Tables {
     pub stations: usize,
@@ -31,7 +33,6 @@ pub struct Tables {
     pub despatch: usize,
     pub lanes: Vec<TableLane>,
     pub sides: Vec<TableSide>,
-    pub caps: Vec<u32>,
     // there are two stations at least
     ghost two_stations: { 2 ≤ stations },
     // there are not too many stations
@@ -42,22 +43,93 @@ pub struct Tables {
     ghost stock_on: { stock < stations },
     // the despatch is a station
     ghost despatch_on: { despatch < stations },
-    // every lane leaves a station
-    ghost from_on: { ((e : ℕ) → e < vec_len lanes → (lane_in lanes.items e).from < stations) },
-    // every lane enters a station
-    ghost to_on: { ((e : ℕ) → e < vec_len lanes → (lane_in lanes.items e).to < stations) },
+    // every lane leaves a station and enters one
+    ghost ends_on: { ((d : Bool) (e : ℕ) → e < vec_len lanes → (end_in d (lane_in lanes.items e)).station < stations) },
     // every station has two sides
     ghost all_sides: { vec_len sides ≡ 2 * stations },
-    // each side has as many lanes as it says
-    ghost widths: { ((s : ℕ) → s < 2 * stations → (side_in sides.items s).width ≡ side_width (table_floor stations stock despatch lanes.items) s) },
+    // each side has all its lanes
+    ghost widths: { ((s : ℕ) → s < 2 * stations → length (lanes_in sides.items s) ≡ side_width (table_floor stations stock despatch lanes.items) s) },
     // no side has too many lanes
-    ghost narrow: { ((s : ℕ) → s < 2 * stations → (side_in sides.items s).width ≤ most_on_side) },
+    ghost narrow: { ((s : ℕ) → s < 2 * stations → length (lanes_in sides.items s) ≤ most_on_side) },
     // each side has its lanes by position
-    ghost placed: { ((s p : ℕ) → p < (side_in sides.items s).width → slice_index (side_in sides.items s).numbers p ≡ lane_at (table_floor stations stock despatch lanes.items) (end_of s) (station_of s) p) },
-    // each lane has its position at the side that it leaves
-    ghost out_placed: { ((e : ℕ) → e < vec_len lanes → (lane_in lanes.items e).out_position ≡ place (table_floor stations stock despatch lanes.items) leaving (lane_in lanes.items e).from e) },
-    // each lane has its position at the side that it enters
-    ghost in_placed: { ((e : ℕ) → e < vec_len lanes → (lane_in lanes.items e).in_position ≡ place (table_floor stations stock despatch lanes.items) entering (lane_in lanes.items e).to e) },
-    // the caps of every side's sets are there
-    ghost held: { ((s : ℕ) → s < 2 * stations → (side_in sides.items s).start + 2 ^ (side_in sides.items s).width ≤ vec_len caps) },
+    ghost placed: { ((s p : ℕ) → p < length (lanes_in sides.items s) → slice_index (lanes_in sides.items s) p ≡ lane_at (table_floor stations stock despatch lanes.items) (end_of s) (station_of s) p) },
+    // each lane has its position at the sides that it leaves and enters
+    ghost ends_placed: { ((d : Bool) (e : ℕ) → e < vec_len lanes → (end_in d (lane_in lanes.items e)).position ≡ place (table_floor stations stock despatch lanes.items) d (end_in d (lane_in lanes.items e)).station e) },
+    // each side has a cap for every set of its lanes
+    ghost held: { ((s : ℕ) → s < 2 * stations → length (caps_in sides.items s) ≡ 2 ^ length (lanes_in sides.items s)) },
+}
+
+impl TableLane {
+    // The end where the lane enters a station, or the one where it leaves a station.
+    pub fn end(self, entering: bool) -> LaneEnd
+        ensures { result ≡ end_in entering self }
+    {
+        if entering {
+            self.entering
+        } else {
+            self.leaving
+        }
+    }
+}
+
+impl Tables {
+    ghost use Rattle.tables.specs.Tables.{meaning_in};
+
+    // The station that a lane enters, or the one that it leaves.
+    #[tactic(auto, using(crate::proofs::Rows::station_on))]
+    pub fn end_of(&self, lane: usize, entering: bool) -> usize
+        requires { lane < vec_len self.now.lanes }
+        ensures is { result ≡ (meaning_in self.now).floor.end entering lane }
+        ensures on { result < self.now.stations }
+    {
+        self.lanes[lane].end(entering).station
+    }
+
+    // The side where a lane enters a station, or where it leaves one.
+    pub fn side_of(&self, lane: usize, entering: bool) -> usize
+        requires { lane < vec_len self.now.lanes }
+        ensures is { result ≡ side_number entering ((meaning_in self.now).floor.end entering lane) }
+        ensures on { result < 2 * self.now.stations }
+    {
+        side_at(self.end_of(lane, entering), entering)
+    }
+
+    // The position of a lane at that side.
+    #[tactic(auto, using(crate::proofs::Rows::position_on))]
+    pub fn position_of(&self, lane: usize, entering: bool) -> usize
+        requires { lane < vec_len self.now.lanes }
+        ensures is { result ≡ place (meaning_in self.now).floor entering ((meaning_in self.now).floor.end entering lane) lane }
+        ensures on { result < count (meaning_in self.now).floor entering ((meaning_in self.now).floor.end entering lane) }
+    {
+        self.lanes[lane].end(entering).position
+    }
+
+    // The lanes of a side, by position.
+    #[tactic(auto, using(crate::proofs::Rows::lanes_few, crate::proofs::Rows::lanes_below))]
+    pub fn lanes_of(&self, side: usize) -> &[usize]
+        requires { side < 2 * self.now.stations }
+        ensures all { length result.now ≡ side_width (meaning_in self.now).floor side }
+        ensures few { length result.now ≤ most_on_side }
+        ensures each { (p : ℕ) → p < side_width (meaning_in self.now).floor side → slice_index result.now p ≡ lane_at (meaning_in self.now).floor (end_of side) (station_of side) p }
+        ensures below { (p : ℕ) → p < side_width (meaning_in self.now).floor side → slice_index result.now p < vec_len self.now.lanes }
+    {
+        self.sides[side].lanes.as_slice()
+    }
+
+    // The caps of the sets of a side's lanes, in the order of their codes.
+    pub fn caps_of(&self, side: usize) -> &[u32]
+        requires { side < 2 * self.now.stations }
+        ensures all { length result.now ≡ 2 ^ side_width (meaning_in self.now).floor side }
+        ensures each { (X : ℕ) → X < 2 ^ side_width (meaning_in self.now).floor side → slice_index result.now X ≡ (meaning_in self.now).cap (end_of side) (station_of side) X }
+    {
+        self.sides[side].caps.as_slice()
+    }
+}
+
+// The side of a station where lanes enter it, or the one where they leave it.
+pub(crate) fn side_at(station: usize, entering: bool) -> usize
+    requires { station < most_stations }
+    ensures { result ≡ side_number entering station }
+{
+    2 * station + usize::from(entering)
 }

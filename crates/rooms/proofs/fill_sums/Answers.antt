@@ -9,16 +9,9 @@ pub loop-position-init : goal.loop-position-init
 loop-position-init c =
     loaded_none (at c.args.trays.now) _ (get_or-set_same c.args.sums.now 0 0 0 (omega (arith, pow_pos (length c.args.trays.now))))
 
-pub add_position-requires : goal.add_position-requires
-add_position-requires c = record {
-  whole =
-      omega (
-        arith,
-        length-set c.args.sums.now 0 0,
-        sets_on c.loop-position.position (length c.args.trays.now) c.loop-position-test.true,
-      );
-  low = λ X l. omega (arith, c.loop-position.invariant.1 X (omega (arith, c.only.ensures)));
-}
+pub add_position-requires-clause-whole : goal.add_position-requires-clause-whole
+add_position-requires-clause-whole c =
+    omega (arith, length-set c.args.sums.now 0 0, sets_on c.loop-position.position (length c.args.trays.now) c.loop-position-test.true)
 
 pub loop-position-preserved : goal.loop-position-preserved
 loop-position-preserved c =

@@ -1,7 +1,11 @@
+use Rattle.std.proofs.Common.{◌≡◌, length}
 use Rattle.rooms.specs.Rooms.{at}
 use Rattle.tables.specs.Tables.{meaning_in}
-use Rattle.measures.specs.Measures.{Measured}
+use Rattle.measures.specs.Measures.{MeasuredBelow}
 use Rattle.measures.proofs.lanes.measure.Given as goal
 
-abbrev pub invariant-loop-station : goal.invariant-loop-station
-invariant-loop-station l = Measured (meaning_in l.tables) (at l.trays) l.entering l.rooms l.station
+-- the rooms at the sides so far are measured
+abbrev pub invariant-loop-side : goal.invariant-loop-side
+invariant-loop-side l =
+    (length l.rooms ≡ length l.initial.rooms)
+    × MeasuredBelow (meaning_in l.floor.tables.now) (at l.floor.trays.now) l.rooms l.side

@@ -1,9 +1,9 @@
-use Rattle.std.proofs.Common.{◌≡◌, ℕ, ◌<◌, ◌≤◌, length, get_or}
+use Rattle.std.proofs.Common.{◌≡◌, ℕ, ◌<◌, length, get_or}
 use Rattle.rooms.specs.Rooms.{at}
 use Rattle.measures.proofs.lanes.trays_on_side.Given as goal
 
--- the places so far have their trays, and the others still hold 0
-abbrev pub invariant-loop-position : goal.invariant-loop-position
-invariant-loop-position l =
-    ((p : ℕ) → p < l.position → get_or l.on p 0 ≡ at l.trays (get_or l.row.numbers p 0))
-    × ((p : ℕ) → l.position ≤ p → get_or l.on p 0 ≡ 0) × (length l.on ≡ 8)
+-- the trays of the lanes so far are there
+abbrev pub invariant-loop-lane : goal.invariant-loop-lane
+invariant-loop-lane l =
+    (length l.trays.items ≡ l.lane-index)
+    × ((p : ℕ) → p < l.lane-index → get_or l.trays.items p 0 ≡ at l.floor.trays.now (get_or l.lane-items p 0))

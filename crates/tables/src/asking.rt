@@ -1,0 +1,78 @@
+// The rows of the tables, as a plant answers.
+ghost use Rattle.std.specs.Prelude.{◌≡◌, ◌*◌, ◌^◌, ◌<◌, ◌≤◌, IfOk};
+ghost use Rattle.floor.specs.Numbers.{most_on_side};
+ghost use Rattle.floor.specs.Floor.{sides as all_sides, width as side_width, end_of, station_of, lane_at};
+ghost use Rattle.tables.specs.Told.{lanes_on, caps_on, SideTold};
+
+use crate::tables::TableSide;
+use plant::Plant;
+use std::alloc::{AllocError, Global};
+
+// A side of a plant, and how many lanes it has.
+#[derive(Drop)]
+pub(crate) struct PlantSide<'a, P: Plant> {
+    plant: &'a P,
+    side: usize,
+    width: usize,
+    // the side is on the floor
+    ghost on_floor: { side < all_sides (P.meaning plant.now).floor },
+    // it has as many lanes
+    ghost all: { width ≡ side_width (P.meaning plant.now).floor side },
+    // it has not too many
+    ghost few: { width ≤ most_on_side },
+}
+
+impl<'a, P: Plant> PlantSide<'a, P> {
+    // A side of the floor.
+    pub(crate) fn new(plant: &'a P, side: usize) -> PlantSide<'a, P>
+        requires { side < all_sides (P.meaning plant.now).floor }
+        ensures plant { result.plant.now ≡ plant.now }
+        ensures side { result.side ≡ side }
+    {
+        let width = plant.width(side).unwrap();
+        PlantSide { plant, side, width }
+    }
+
+    // The lane at a position.
+    fn lane_at(&self, position: usize) -> usize
+        requires { position < self.now.width }
+        ensures { result ≡ lane_at (P.meaning self.now.plant.now).floor (end_of self.now.side) (station_of self.now.side) position }
+    {
+        self.plant.lane_at(self.side, position).unwrap()
+    }
+
+    // The cap of a set.
+    fn cap(&self, set: usize) -> u32
+        requires { set < 2 ^ self.now.width }
+        ensures { result ≡ (P.meaning self.now.plant.now).cap (end_of self.now.side) (station_of self.now.side) set }
+    {
+        self.plant.cap(self.side, set).unwrap()
+    }
+
+    // The lanes, by position.
+    fn lanes(&self, heap: Global) -> Result<Vec<usize>, AllocError>
+        ensures { IfOk result (λ v. v.items ≡ lanes_on (P.meaning self.now.plant.now).floor self.now.side) }
+    {
+        (0..self.width)
+            .map(|position| self.lane_at(position))
+            .collect(heap)
+    }
+
+    // The caps of the sets, in the order of their codes.
+    fn caps(&self, heap: Global) -> Result<Vec<u32>, AllocError>
+        ensures { IfOk result (λ v. v.items ≡ caps_on (P.meaning self.now.plant.now) self.now.side) }
+    {
+        let sets = 1 << self.width;
+        (0..sets).map(|set| self.cap(set)).collect(heap)
+    }
+
+    // The row of the side.
+    pub(crate) fn table(&self, heap: Global) -> Result<TableSide, AllocError>
+        ensures { IfOk result (λ row. SideTold (P.meaning self.now.plant.now) self.now.side row) }
+    {
+        Ok(TableSide {
+            lanes: self.lanes(heap)?,
+            caps: self.caps(heap)?,
+        })
+    }
+}

@@ -1,33 +1,38 @@
--- The trays through a station, one lane at a time.
-use Rattle.std.proofs.Common.{◌≡◌, ℕ, ◌+◌, Bool, true, false, cond, ◌&&◌, refl, add-one, arith}
-use Rattle.std.proofs.lemmas.Bool.Decides.{nat_tests}
+-- The trays through a station, by a round over the lanes with their trays.
+use Rattle.std.proofs.Common.{◌≡◌, ℕ, zero, suc, ◌+◌, Bool, true, false, cond, ◌&&◌, List, [], ◌∷◌, zip, map, filter, sum_by, length, vec_items, vec_len, refl, sym, ap, ◌∙◌, add-one, ◌==◌, arith}
+use Rattle.std.specs.List.{range_with_len}
+use Rattle.std.proofs.lemmas.List.FromFn.{filter_of_map_range_with_len_more}
+use Rattle.std.proofs.lemmas.List.Sums.{sum_by-append}
 use Rattle.polymatroid.specs.Kinds.{sum_to}
-use Rattle.floor.specs.Floor.{on}
-use Rattle.floor.specs.Meaning.{Meaning}
 use Rattle.network.specs.Plans.{through}
+use Rattle.rooms.specs.Rooms.{at}
+use Rattle.tables.specs.Parts.{end_in, lane_in}
+use Rattle.tables.specs.Tables.{meaning_in}
+use Rattle.tables.specs.declared.tables.Tables.{Tables}
+use Rattle.tables.specs.declared.tables.TableLane.{TableLane}
+use Rattle.loads.proofs.Every.{pairs_are}
 
--- the trays of those of the first n lanes that have their end d at station i
-abbrev pub among : Meaning → (ℕ → ℕ) → Bool → ℕ → ℕ → ℕ
-among M f d i n = sum_to (λ e. cond (on M.floor d i e && true) (f e) 0) n
-
--- no lanes, no trays
-pub among_none : (M : Meaning) (f : ℕ → ℕ) (d : Bool) (i : ℕ) → 0 ≡ among M f d i 0
+-- the values at the numbers below n that pass t
+sum_round : {A : Type 0} (of : ℕ → A) (t : A → Bool) (v : A → ℕ) (n : ℕ)
+    → sum_by v (filter t (map of (range_with_len 0 n))) ≡ sum_to (λ k. cond (t (of k) && true) (v (of k)) 0) n
 unfolding sum_to
-among_none M f d i = refl
+sum_round of t v zero = refl
+sum_round of t v (suc n) =
+    ap (λ k. sum_by v (filter t (map of (range_with_len 0 k)))) (sym (add-one n))
+    ∙ ap (sum_by v) (filter_of_map_range_with_len_more t of 0 n n (omega arith))
+    ∙ sum_by-append v (filter t (map of (range_with_len 0 n))) (cond (t (of n)) (of n ∷ []) [])
+    ∙ (λ i. sum_round of t v n i + one (t (of n)) i)
+  where
+    one : (b : Bool) → sum_by v (cond b (of n ∷ []) []) ≡ cond (b && true) (v (of n)) 0
+    one true = omega arith
+    one false = refl
 
--- one lane more
-among_more : (M : Meaning) (f : ℕ → ℕ) (d : Bool) (i n : ℕ) → among M f d i (n + 1) ≡ among M f d i n + cond (on M.floor d i n && true) (f n) 0
-unfolding sum_to
-among_more M f d i n = rw add-one
-
--- a lane with its end there adds its trays, another adds none
-pub among_on : (M : Meaning) (f : ℕ → ℕ) (d : Bool) (i n : ℕ) → on M.floor d i n ≡ true → among M f d i n + f n ≡ among M f d i (n + 1)
-among_on M f d i n o = let m = among_more M f d i n in grind (arith, nat_tests)
-
-pub among_off : (M : Meaning) (f : ℕ → ℕ) (d : Bool) (i n : ℕ) → on M.floor d i n ≡ false → among M f d i n ≡ among M f d i (n + 1)
-among_off M f d i n o = let m = among_more M f d i n in grind (arith, nat_tests)
-
--- all lanes
-pub among_all : (M : Meaning) (f : ℕ → ℕ) (d : Bool) (i : ℕ) → among M f d i M.floor.lanes ≡ through M f (λ e. true) d i
+pub through_round : (t : Tables) (trays : List ℕ) (d : Bool) (i : ℕ) → length trays ≡ vec_len t.lanes
+    → sum_by (λ q. q.1) (filter (λ (q : TableLane × ℕ). (end_in d q.0).station == i) (zip (vec_items t.lanes) trays))
+    ≡ through (meaning_in t) (at trays) (λ _. true) d i
 unfolding through
-among_all M f d i = refl
+through_round t trays d i same =
+    let of : ℕ → TableLane × ℕ = λ k. (lane_in (vec_items t.lanes) k, at trays k) in
+    ap (λ xs. sum_by (λ q. q.1) (filter (λ (q : TableLane × ℕ). (end_in d q.0).station == i) xs)) (pairs_are (vec_items t.lanes) trays _ 0 (omega (arith, t.lanes.ok.0)))
+    ∙ sum_round of (λ (q : TableLane × ℕ). (end_in d q.0).station == i) (λ q. q.1) (length trays)
+    ∙ ap (sum_to (λ k. cond (((end_in d (lane_in (vec_items t.lanes) k)).station == i) && true) (at trays k) 0)) (omega (arith, t.lanes.ok.0))

@@ -4,141 +4,98 @@
 // is asked station by station. These functions are for the planner, whose proof shows what they require.
 #![tactic(auto)]
 
-ghost use Rattle.std.specs.Prelude.{◌≡◌, ◌*◌, ◌<◌, ◌≤◌, true, leb, length, vec_len, nat_le, slice_index};
-ghost use Rattle.polymatroid.specs.Tables.{every};
-ghost use Rattle.floor.specs.Numbers.{most_on_side};
-ghost use Rattle.floor.specs.Floor.{width};
+ghost use Rattle.std.specs.Prelude.{◌≡◌, ◌*◌, ◌<◌, ◌≤◌, ◌==◌, true, length, nat_le, zip, filter, sum_by};
+ghost use Rattle.std.specs.List.{list_all, range_with_len};
+ghost use Rattle.floor.specs.Numbers.{most_lanes};
 ghost use Rattle.network.specs.Plans.{through, total};
 ghost use Rattle.calls.specs.Does.{side_within, station_balanced, is_plan};
 ghost use Rattle.rooms.specs.Rooms.{at};
+ghost use Rattle.tables.specs.Parts.{end_in};
 ghost use Rattle.tables.specs.Tables.{meaning_in};
 
-use measures::trays_on_side;
-use plant::MOST_ON_SIDE;
-use rooms::fill_sums;
-use tables::Tables;
-
-// A side has at most so many sets.
-const MOST_SETS: usize = 1 << MOST_ON_SIDE;
-
-// How many lanes a side has.
-fn side_width(tables: &Tables, side: usize) -> usize
-    requires { side < 2 * tables.now.stations }
-    ensures all { result ≡ width (meaning_in tables.now).floor side }
-    ensures few { result ≤ most_on_side }
-{
-    tables.sides[side].width
-}
-
-// A sum is not above its cap.
-fn is_within(sum: u64, cap: u32) -> bool
-    ensures { result ≡ nat_le sum cap }
-{
-    sum <= u64::from(cap)
-}
+use measures::load_side;
+use plant::MOST_SETS;
+use rooms::LoadedSide;
+use tables::{LoadedFloor, TableLane};
 
 // No sum is above its cap.
-fn sums_within(caps: &[u32], sums: &[u64]) -> bool
-    requires { length sums.now ≡ length caps.now }
-    ensures { result ≡ every (length caps.now) (λ X. leb (slice_index sums.now X) (slice_index caps.now X)) }
+fn sums_within(side: &LoadedSide) -> bool
+    ensures { result ≡ list_all (λ q. nat_le q.0 q.1) (zip side.now.sums.now side.now.caps.now) }
 {
-    for set in 0..caps.len() {
-        if !is_within(sums[set], caps[set]) {
-            return false;
-        }
-    }
-    true
+    side.sums
+        .iter()
+        .zip(side.caps)
+        .all(|(sum, cap)| *sum <= u64::from(*cap))
 }
 
 // No set of a side carries more than its cap.
-fn side_within(tables: &Tables, trays: &[u32], side: usize) -> bool
-    requires side { side < 2 * tables.now.stations }
-    requires trays { length trays.now ≡ vec_len tables.now.lanes }
-    ensures { result ≡ side_within (meaning_in tables.now) (at trays.now) side }
+fn side_within(floor: &LoadedFloor, side: usize) -> bool
+    requires { side < 2 * floor.now.tables.now.stations }
+    ensures { result ≡ side_within (meaning_in floor.now.tables.now) (at floor.now.trays.now) side }
 {
-    let caps = tables.caps_of(side);
-    let places = trays_on_side(tables, trays, side);
-    let on = &places[..side_width(tables, side)];
-    let mut sets = [0; MOST_SETS];
-    let sums = &mut sets[..caps.len()];
-    fill_sums(on, sums);
-    sums_within(caps, sums)
+    let mut sums = [0; MOST_SETS];
+    sums_within(&load_side(floor, side, &mut sums))
 }
 
 // No set of any side carries more than its cap.
-fn sides_within(tables: &Tables, trays: &[u32]) -> bool
-    requires { length trays.now ≡ vec_len tables.now.lanes }
-    ensures { result ≡ every (2 * tables.now.stations) (side_within (meaning_in tables.now) (at trays.now)) }
+fn sides_within(floor: &LoadedFloor) -> bool
+    ensures { result ≡ list_all (side_within (meaning_in floor.now.tables.now) (at floor.now.trays.now)) (range_with_len 0 (2 * floor.now.tables.now.stations)) }
 {
-    for side in 0..2 * tables.stations {
-        if !side_within(tables, trays, side) {
-            return false;
-        }
-    }
-    true
+    (0..2 * floor.tables.stations).all(|side| side_within(floor, side))
 }
 
-// The station that a lane enters, or that it leaves.
-fn end_of(tables: &Tables, lane: usize, entering: bool) -> usize
-    requires { lane < vec_len tables.now.lanes }
-    ensures { result ≡ (meaning_in tables.now).floor.end entering lane }
+// The trays of those of the lanes that have an end at a station.
+fn trays_of_lanes(lanes: &[TableLane], trays: &[u32], entering: bool, station: usize) -> u64
+    requires { length lanes.now ≤ most_lanes }
+    ensures { result ≡ sum_by (λ q. q.1) (filter (λ q. (end_in entering q.0).station == station) (zip lanes.now trays.now)) }
 {
-    let row = tables.lanes[lane];
-    if entering { row.to } else { row.from }
+    lanes
+        .iter()
+        .zip(trays)
+        .filter(|(lane, _)| lane.end(entering).station == station)
+        .map(|(_, trays)| u64::from(*trays))
+        .sum()
 }
 
 // The trays of the lanes that enter a station, or that leave it.
-fn trays_through(tables: &Tables, trays: &[u32], entering: bool, station: usize) -> u64
-    requires { length trays.now ≡ vec_len tables.now.lanes }
-    ensures { result ≡ through (meaning_in tables.now) (at trays.now) (λ _. true) entering station }
+fn trays_through(floor: &LoadedFloor, entering: bool, station: usize) -> u64
+    ensures { result ≡ through (meaning_in floor.now.tables.now) (at floor.now.trays.now) (λ _. true) entering station }
 {
-    let mut sum = 0;
-    for lane in 0..trays.len() {
-        if end_of(tables, lane, entering) == station {
-            sum += u64::from(trays[lane]);
-        }
-    }
-    sum
+    trays_of_lanes(
+        floor.tables.lanes.as_slice(),
+        floor.trays,
+        entering,
+        station,
+    )
 }
 
 // As many trays enter the station as leave it, if it is neither the stock nor the despatch.
-fn station_balanced(tables: &Tables, trays: &[u32], station: usize) -> bool
-    requires { length trays.now ≡ vec_len tables.now.lanes }
-    ensures { result ≡ station_balanced (meaning_in tables.now) (at trays.now) station }
+#[tactic(auto, unfolding(calls::specs::Does::station_balanced))]
+fn station_balanced(floor: &LoadedFloor, station: usize) -> bool
+    ensures { result ≡ station_balanced (meaning_in floor.now.tables.now) (at floor.now.trays.now) station }
 {
-    if station == tables.stock || station == tables.despatch {
-        return true;
-    }
-    let entering = trays_through(tables, trays, true, station);
-    let leaving = trays_through(tables, trays, false, station);
-    entering == leaving
+    let is_pole = station == floor.tables.stock || station == floor.tables.despatch;
+    is_pole || trays_through(floor, true, station) == trays_through(floor, false, station)
 }
 
 // Every station is balanced, the stock and the despatch apart.
-fn stations_balanced(tables: &Tables, trays: &[u32]) -> bool
-    requires { length trays.now ≡ vec_len tables.now.lanes }
-    ensures { result ≡ every tables.now.stations (station_balanced (meaning_in tables.now) (at trays.now)) }
+fn stations_balanced(floor: &LoadedFloor) -> bool
+    ensures { result ≡ list_all (station_balanced (meaning_in floor.now.tables.now) (at floor.now.trays.now)) (range_with_len 0 floor.now.tables.now.stations) }
 {
-    for station in 0..tables.stations {
-        if !station_balanced(tables, trays, station) {
-            return false;
-        }
-    }
-    true
+    (0..floor.tables.stations).all(|station| station_balanced(floor, station))
 }
 
 // Whether the trays are a plan.
-pub fn is_plan(tables: &Tables, trays: &[u32]) -> bool
-    requires { length trays.now ≡ vec_len tables.now.lanes }
-    ensures { result ≡ is_plan (meaning_in tables.now) (at trays.now) }
+#[tactic(auto, using(crate::proofs::Every::every_round), unfolding(calls::specs::Does::is_plan))]
+pub fn is_plan(floor: &LoadedFloor) -> bool
+    ensures { result ≡ is_plan (meaning_in floor.now.tables.now) (at floor.now.trays.now) }
 {
-    sides_within(tables, trays) && stations_balanced(tables, trays)
+    sides_within(floor) && stations_balanced(floor)
 }
 
 // How many trays leave the stock.
-pub fn total_of(tables: &Tables, trays: &[u32]) -> u64
-    requires { length trays.now ≡ vec_len tables.now.lanes }
-    ensures { result ≡ total (meaning_in tables.now) (at trays.now) }
+pub fn total_of(floor: &LoadedFloor) -> u64
+    ensures { result ≡ total (meaning_in floor.now.tables.now) (at floor.now.trays.now) }
 {
-    trays_through(tables, trays, false, tables.stock)
+    trays_through(floor, false, floor.tables.stock)
 }

@@ -7,7 +7,7 @@ mod lane_rooms;
 mod lanes;
 
 pub use lane_rooms::LaneRooms;
-pub use lanes::{measure, room_zeroing, trays_on_side};
+pub use lanes::{load_side, measure, room_zeroing, trays_on_side};
 
 // The labels that a scanned lane gives follow from rooms alone.
 pub fn rooms_rule()

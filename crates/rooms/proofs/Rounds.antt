@@ -13,7 +13,7 @@ use Rattle.polymatroid.specs.Room.{zeroed}
 use Rattle.rooms.specs.Rooms.{alone, lowered}
 
 -- one number more at the end
-range_more : (a n j : ℕ) → a + n ≡ j → range_with_len a (suc n) ≡ range_with_len a n ++ j ∷ []
+pub range_more : (a n j : ℕ) → a + n ≡ j → range_with_len a (suc n) ≡ range_with_len a n ++ j ∷ []
 range_more a zero j e = ap (λ x. x ∷ []) (omega arith)
 range_more a (suc n) j e = ap (λ xs. a ∷ xs) (range_more (a + 1) n j (omega arith))
 

@@ -24,7 +24,7 @@ fn move_lane(step: SignedLane, amount: u32, trays: &mut [u32])
     requires on { step.lane < length trays.old }
     requires fits { slice_index trays.old step.lane + amount < 4294967296 }
     ensures all { length trays.new ≡ length trays.old }
-    ensures each { (e : ℕ) → slice_index trays.new e ≡ applied amount (signed_state step) (at trays.old) e }
+    ensures each { at trays.new ≡ applied amount (signed_state step) (at trays.old) }
 {
     let held = trays[step.lane];
     trays[step.lane] = match step.sign {
@@ -34,6 +34,7 @@ fn move_lane(step: SignedLane, amount: u32, trays: &mut [u32])
 }
 
 // Moves an amount of trays along a path: so many more on each + lane, so many fewer on each - lane.
+#[tactic(auto, using(crate::proofs::Shifting::moving_on, crate::proofs::Shifting::moving_all))]
 pub fn make_move(path: &[SignedLane], amount: u32, trays: &mut [u32])
     requires among { Among (length trays.old) (map signed_state path.now) }
     requires short { length path.now ≤ most_lanes }

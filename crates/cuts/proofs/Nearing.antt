@@ -1,15 +1,13 @@
--- What the sign of a lane's label and its room tell of the stations that it makes near.
-use Rattle.std.proofs.Common.{◌≡◌, ℕ, zero, suc, ◌<◌, Bool, true, false, cond, not, ◌&&◌, ◌||◌, eqb, ltb, List, length, get_or, Some, sym, refl, ap, ◌∙◌, ap₂, arith}
+-- Which stations the lanes make near, by their rooms.
+use Rattle.std.proofs.Common.{◌≡◌, ℕ, zero, suc, ◌<◌, Bool, true, false, cond, not, ◌&&◌, ◌||◌, eqb, ltb, List, length, refl, ap, ◌∙◌, ap₂, arith}
 use Rattle.std.proofs.lemmas.List.FromFn.{get_or-range_with_len, length-range_with_len}
 use Rattle.std.specs.List.{HoldsAt, AllWithin, range_with_len}
 use Rattle.std.specs.Bool.{MatchBool}
 use Rattle.polymatroid.specs.Finite.{first}
 use Rattle.floor.specs.Floor.{leaving, entering, stock}
 use Rattle.floor.specs.Meaning.{Meaning}
-use Rattle.labelling.specs.Table.{Mark, Blank, Given, mark, is_plus, is_minus}
+use Rattle.labelling.specs.Table.{Mark}
 use Rattle.labelling.specs.Near.{nears, near, plus_labelled, minus_labelled}
-use Rattle.labels.specs.declared.Sign.TheVariants as sign
-use Rattle.labels.specs.Labels.{sign_in}
 use Rattle.labels.proofs.Searches.{any_first}
 use Rattle.measures.specs.declared.lane_rooms.LaneRooms.{LaneRooms}
 use Rattle.measures.proofs.ByRooms.{full_is}

@@ -33,6 +33,7 @@ impl MeasuredFloor<'_> {
     }
 
     // Whether a station is near: it is the stock, or a lane makes it near.
+    #[tactic(auto, unfolding(crate::specs::Cut::near_by_rooms))]
     fn is_near(&self, station: usize) -> bool
         ensures { result ≡ near_by_rooms (meaning_in self.now.floor.tables.now) self.now.rooms.now (marks_in self.now.floor.labels.now) station }
     {

@@ -1,4 +1,4 @@
--- The stock is near, and so is a station that a lane makes near.
+-- A station other than the stock is near where a lane makes it near.
 use Rattle.std.proofs.Common.{◌≡◌, true, false, ◌||◌, ltb, refl, sym, ap, ◌∙◌, rules, tests, arith}
 use Rattle.std.proofs.lemmas.Bool.{ne_eqb}
 use Rattle.std.proofs.lemmas.Iterator.{cases_from_any, YieldsList-from_range}
@@ -8,10 +8,6 @@ use Rattle.labels.specs.Labels.{marks_in}
 use Rattle.cuts.specs.Cut.{nears_by_rooms, near_by_rooms}
 use Rattle.cuts.proofs.Nearing.{any_below}
 use Rattle.cuts.proofs.measured.MeasuredFloor.is_near.Goals as goal
-
-pub returns-then-tables-station : goal.returns-then-tables-station
-unfolding near_by_rooms
-returns-then-tables-station c = search rules
 
 pub returns-else-tables-station : goal.returns-else-tables-station
 unfolding near_by_rooms

@@ -1,16 +1,13 @@
 -- The amount of a path, worked out from rooms alone.
-use Rattle.std.specs.Prelude.{◌≡◌, ℕ, suc, ◌<◌, ◌≤◌, min, Bool, true, List, length, vec_len, ◌≢◌, slice_index}
+use Rattle.std.specs.Prelude.{◌≡◌, ℕ, suc, ◌<◌, ◌≤◌, min, true, List, length, ◌≢◌}
 use Rattle.polymatroid.specs.Finite.{least}
 use Rattle.floor.specs.Floor.{leaving, entering}
 use Rattle.floor.specs.Meaning.{Meaning, Lawful}
 use Rattle.network.specs.Plans.{Fits}
 use Rattle.network.specs.States.{State, Pole, Plus, Minus, OnFloor, holder}
-use Rattle.rooms.specs.Rooms.{at}
 use Rattle.labelling.specs.Amount.{amount_of}
 use Rattle.labelling.specs.Augmenting.{along}
-use Rattle.tables.specs.Tables.{meaning_in}
-use Rattle.tables.specs.declared.tables.Tables.{Tables}
-use Rattle.measures.specs.ByRooms.{room_at, beside}
+use Rattle.measures.specs.ByRooms.{beside}
 
 -- what the lane y lets through between x before it and z after it: a - lane its trays, a + lane its room at either end
 abbrev pub term_by_rooms : Meaning → (ℕ → ℕ) → State → State → State → ℕ
@@ -29,11 +26,6 @@ least_through M f p l = least (λ q. true) (λ q. through M f p q) (through M f 
 -- the amount of a path
 unfoldable pub amount_by_rooms : Meaning → (ℕ → ℕ) → List State → ℕ
 amount_by_rooms M f p = least_through M f p (length p)
-
--- the rooms of all lanes at their end d
-pub record RoomsAt (t : Tables) (trays : List ℕ) (d : Bool) (rooms : List ℕ) : Type 0 where
-  pub all : length rooms ≡ vec_len t.lanes
-  pub each : (e : ℕ) → e < vec_len t.lanes → slice_index rooms e ≡ room_at (meaning_in t) (at trays) d e
 
 -- on a path of the floor whose neighbours are different lanes, this is the amount of the rules
 abbrev pub AmountsByRooms : Type 0

@@ -1,24 +1,24 @@
 // The move of a step along its path: how many trays it moves, and the moving.
 #![tactic(auto)]
 
-ghost use Rattle.std.specs.Prelude.{◌≡◌, ℕ, suc, ◌+◌, ◌<◌, ◌≤◌, map, length, vec_len, slice_index};
+ghost use Rattle.std.specs.Prelude.{◌≡◌, ℕ, suc, ◌+◌, ◌<◌, ◌≤◌, map, length, slice_index};
 ghost use Rattle.floor.specs.Numbers.{most_lanes, top_cap};
-ghost use Rattle.floor.specs.Floor.{leaving, entering};
 ghost use Rattle.network.specs.States.{applied};
 ghost use Rattle.rooms.specs.Rooms.{at};
 ghost use Rattle.labelling.specs.Augmenting.{along};
 ghost use Rattle.labelling.specs.Steps.{shifted};
 ghost use Rattle.labels.specs.Labels.{Known, signed_state, from_state};
-ghost use Rattle.tables.specs.Tables.{meaning_in};
 ghost use Rattle.measures.specs.ByRooms.{beside as room_beside};
-ghost use Rattle.moves.specs.Amount.{RoomsAt, term_by_rooms, through, amount_by_rooms, AmountsByRooms};
+ghost use Rattle.scans.specs.Standing.{meaning_of, trays_of, lanes_of};
+ghost use Rattle.moves.specs.Amount.{term_by_rooms, through, amount_by_rooms, AmountsByRooms};
 ghost use Rattle.moves.specs.Paths.{Among, to_state};
 
 use labels::{Sign, SignedLane};
 use measures::room_zeroing;
-use tables::Tables;
+use scans::Standing;
 
 // Trays more on a + lane, or fewer on a - lane.
+#[tactic(auto, using(crate::proofs::Shifting::set_plus, crate::proofs::Shifting::set_minus))]
 fn move_lane(step: SignedLane, amount: u32, trays: &mut [u32])
     requires on { step.lane < length trays.old }
     requires fits { slice_index trays.old step.lane + amount < 4294967296 }
@@ -26,14 +26,10 @@ fn move_lane(step: SignedLane, amount: u32, trays: &mut [u32])
     ensures each { (e : ℕ) → slice_index trays.new e ≡ applied amount (signed_state step) (at trays.old) e }
 {
     let held = trays[step.lane];
-    match step.sign {
-        Sign::Plus => {
-            trays[step.lane] = held + amount;
-        }
-        Sign::Minus => {
-            trays[step.lane] = held.saturating_sub(amount);
-        }
-    }
+    trays[step.lane] = match step.sign {
+        Sign::Plus => held + amount,
+        Sign::Minus => held.saturating_sub(amount),
+    };
 }
 
 // Moves an amount of trays along a path: so many more on each + lane, so many fewer on each - lane.
@@ -45,122 +41,77 @@ pub fn make_move(path: &[SignedLane], amount: u32, trays: &mut [u32])
     ensures all { length trays.new ≡ length trays.old }
     ensures each { (e : ℕ) → slice_index trays.new e ≡ shifted amount (map signed_state path.now) (at trays.old) e }
 {
-    for step in 0..path.len() {
-        move_lane(path[step], amount, trays);
+    for step in path {
+        move_lane(*step, amount, trays);
     }
 }
 
-// The station that a lane enters, or the one that it leaves.
-fn end_of(tables: &Tables, lane: usize, entering: bool) -> usize
-    requires { lane < vec_len tables.now.lanes }
-    ensures { result ≡ (meaning_in tables.now).floor.end entering lane }
-{
-    let row = tables.lanes[lane];
-    if entering { row.to } else { row.from }
-}
-
 // The room of a lane at one of its ends beside a neighbour in the path, whose trays count as none if it lies on the same side.
-fn beside(
-    tables: &Tables,
-    trays: &[u32],
-    rooms: &[u32],
-    entering: bool,
-    lane: usize,
-    neighbour: Option<SignedLane>,
-) -> u32
-    requires trays { length trays.now ≡ vec_len tables.now.lanes }
-    requires rooms { RoomsAt tables.now trays.now entering rooms.now }
-    requires lane { lane < vec_len tables.now.lanes }
-    requires neighbour { Known (vec_len tables.now.lanes) neighbour }
-    ensures { result ≡ room_beside (meaning_in tables.now) (at trays.now) entering lane (from_state neighbour) }
+fn beside(standing: &Standing, entering: bool, lane: usize, neighbour: Option<SignedLane>) -> u32
+    requires lane { lane < lanes_of standing.now }
+    requires neighbour { Known (lanes_of standing.now) neighbour }
+    ensures { result ≡ room_beside (meaning_of standing.now) (trays_of standing.now) entering lane (from_state neighbour) }
 {
-    let Some(other) = neighbour else {
-        return rooms[lane];
-    };
-    let there = end_of(tables, other.lane, entering);
-    let here = end_of(tables, lane, entering);
-    if there == here {
-        room_zeroing(tables, trays, entering, lane, other.lane)
-    } else {
-        rooms[lane]
+    let tables = standing.floor.tables;
+    match neighbour {
+        Some(other) if tables.end_of(other.lane, entering) == tables.end_of(lane, entering) => {
+            room_zeroing(&standing.floor, entering, lane, other.lane)
+        }
+        _ => standing.rooms[lane].at(entering),
     }
 }
 
 // What a lane lets through between its neighbours: a - lane its trays, a + lane its room at either end.
 fn let_through(
-    tables: &Tables,
-    trays: &[u32],
-    out_rooms: &[u32],
-    in_rooms: &[u32],
+    standing: &Standing,
     before: Option<SignedLane>,
     lane: SignedLane,
     after: Option<SignedLane>,
 ) -> u32
-    requires trays { length trays.now ≡ vec_len tables.now.lanes }
-    requires out { RoomsAt tables.now trays.now leaving out_rooms.now }
-    requires into { RoomsAt tables.now trays.now entering in_rooms.now }
-    requires before { Known (vec_len tables.now.lanes) before }
-    requires lane { lane.lane < vec_len tables.now.lanes }
-    requires after { Known (vec_len tables.now.lanes) after }
-    ensures { result ≡ term_by_rooms (meaning_in tables.now) (at trays.now) (from_state before) (signed_state lane) (from_state after) }
+    requires before { Known (lanes_of standing.now) before }
+    requires lane { lane.lane < lanes_of standing.now }
+    requires after { Known (lanes_of standing.now) after }
+    ensures { result ≡ term_by_rooms (meaning_of standing.now) (trays_of standing.now) (from_state before) (signed_state lane) (from_state after) }
 {
     match lane.sign {
         Sign::Plus => {
-            let leaving = beside(tables, trays, out_rooms, false, lane.lane, before);
-            let entering = beside(tables, trays, in_rooms, true, lane.lane, after);
+            let leaving = beside(standing, false, lane.lane, before);
+            let entering = beside(standing, true, lane.lane, after);
             leaving.min(entering)
         }
-        Sign::Minus => trays[lane.lane],
+        Sign::Minus => standing.floor.trays[lane.lane],
     }
 }
 
 // The signed lane before one of the path, if that is not the first.
+#[tactic(auto, using(crate::proofs::Reading::lane_below, crate::proofs::Reading::along_first, crate::proofs::Reading::along_at))]
 fn before(path: &[SignedLane], place: usize) -> Option<SignedLane>
     requires { place < length path.now }
     ensures is { from_state result ≡ along (map signed_state path.now) place }
     ensures known { (m : ℕ) → Among m (map signed_state path.now) → Known m result }
 {
-    if place == 0 {
-        None
-    } else {
-        Some(path[place - 1])
-    }
+    place.checked_sub(1).map(|below| path[below])
 }
 
 // The signed lane after one of the path, if that is not the last.
+#[tactic(auto, using(crate::proofs::Reading::lane_below, crate::proofs::Reading::along_at, crate::proofs::Reading::along_past))]
 fn after(path: &[SignedLane], place: usize) -> Option<SignedLane>
     requires { place < length path.now }
     ensures is { to_state result ≡ along (map signed_state path.now) (suc (suc place)) }
     ensures known { (m : ℕ) → Among m (map signed_state path.now) → Known m result }
 {
-    if place == path.len() - 1 {
-        None
-    } else {
-        Some(path[place + 1])
-    }
+    path.get(place + 1).copied()
 }
 
 // What a lane of the path lets through.
-fn through_at(
-    tables: &Tables,
-    trays: &[u32],
-    out_rooms: &[u32],
-    in_rooms: &[u32],
-    path: &[SignedLane],
-    place: usize,
-) -> u32
-    requires trays { length trays.now ≡ vec_len tables.now.lanes }
-    requires out { RoomsAt tables.now trays.now leaving out_rooms.now }
-    requires into { RoomsAt tables.now trays.now entering in_rooms.now }
-    requires among { Among (vec_len tables.now.lanes) (map signed_state path.now) }
+#[tactic(auto, using(crate::proofs::Reading::lane_below, crate::proofs::Amounts::through_is))]
+fn through_at(standing: &Standing, path: &[SignedLane], place: usize) -> u32
+    requires among { Among (lanes_of standing.now) (map signed_state path.now) }
     requires place { place < length path.now }
-    ensures { result ≡ through (meaning_in tables.now) (at trays.now) (map signed_state path.now) place }
+    ensures { result ≡ through (meaning_of standing.now) (trays_of standing.now) (map signed_state path.now) place }
 {
     let_through(
-        tables,
-        trays,
-        out_rooms,
-        in_rooms,
+        standing,
         before(path, place),
         path[place],
         after(path, place),
@@ -168,26 +119,16 @@ fn through_at(
 }
 
 // The amount of a path: the least that a lane of it lets through.
-pub fn amount_of(
-    tables: &Tables,
-    trays: &[u32],
-    out_rooms: &[u32],
-    in_rooms: &[u32],
-    path: &[SignedLane],
-) -> u32
-    requires trays { length trays.now ≡ vec_len tables.now.lanes }
-    requires out { RoomsAt tables.now trays.now leaving out_rooms.now }
-    requires into { RoomsAt tables.now trays.now entering in_rooms.now }
-    requires among { Among (vec_len tables.now.lanes) (map signed_state path.now) }
+#[tactic(auto, using(crate::proofs::Amounts::amount_round))]
+pub fn amount_of(standing: &Standing, path: &[SignedLane]) -> u32
+    requires among { Among (lanes_of standing.now) (map signed_state path.now) }
     requires some { 0 < length path.now }
-    ensures { result ≡ amount_by_rooms (meaning_in tables.now) (at trays.now) (map signed_state path.now) }
+    ensures { result ≡ amount_by_rooms (meaning_of standing.now) (trays_of standing.now) (map signed_state path.now) }
 {
-    let mut least = through_at(tables, trays, out_rooms, in_rooms, path, 0);
-    for place in 1..path.len() {
-        let next = through_at(tables, trays, out_rooms, in_rooms, path, place);
-        least = least.min(next);
-    }
-    least
+    let first = through_at(standing, path, 0);
+    (1..path.len())
+        .map(|place| through_at(standing, path, place))
+        .fold(first, |least, next| least.min(next))
 }
 
 // The amount that is worked out from rooms is the amount of the rules.

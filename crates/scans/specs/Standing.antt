@@ -9,15 +9,15 @@ use Rattle.scans.specs.declared.standing.Standing.{Standing}
 
 -- the floor and its caps
 abbrev pub meaning_of : Standing → Meaning
-meaning_of s = meaning_in s.tables.now
+meaning_of s = meaning_in s.floor.tables.now
 
 -- the trays of each lane
 abbrev pub trays_of : Standing → ℕ → ℕ
-trays_of s = at s.trays.now
+trays_of s = at s.floor.trays.now
 
 -- how many lanes there are
 abbrev pub lanes_of : Standing → ℕ
-lanes_of s = vec_len s.tables.now.lanes
+lanes_of s = vec_len s.floor.tables.now.lanes
 
 -- who gives a label to whom
 abbrev pub rule_of : Standing → State → State → Bool

@@ -2,6 +2,7 @@
 // beforehand, and those that a lane would have if another carried no trays, worked out when they are asked for.
 #![tactic(auto)]
 
+mod pair;
 mod rules;
 mod standing;
 

@@ -12,7 +12,7 @@ use Rattle.moves.proofs.make_move.Goals as goal
 pub move_lane-requires : goal.move_lane-requires
 move_lane-requires c =
     let path = c.args.path.now in
-    let k = c.loop-step.step in
+    let k = c.loop-step.step-index in
     let on : (signed_at path k).lane < length c.loop-step.trays =
     omega (arith, lane_below (length c.args.trays.now) path k c.loop-step-test.true c.requires.among, c.loop-step.auto.trays) in
     record {
@@ -23,7 +23,7 @@ move_lane-requires c =
 pub loop-step-preserved : goal.loop-step-preserved
 loop-step-preserved c =
     let path = c.args.path.now in
-    let k = c.loop-step.step in (
+    let k = c.loop-step.step-index in (
       shifted_more c.args.amount path k c.loop-step-test.true c.loop-step.trays c.move_lane.new.trays c.move_lane.ensures.each ∙ c.loop-step.invariant.0,
       λ e l. omega (
         arith,
@@ -40,6 +40,6 @@ returns c =
     let path = c.args.path.now in
     record {
       all = c.loop-step.auto.trays;
-      each = λ e. sym (ap (λ p. shifted c.args.amount (map signed_state p) (at c.loop-step.trays) e) (drop_all c.loop-step.step path (omega arith)))
+      each = λ e. sym (ap (λ p. shifted c.args.amount (map signed_state p) (at c.loop-step.trays) e) (drop_all c.loop-step.step-index path (omega arith)))
           ∙ ap (λ f. f e) c.loop-step.invariant.0;
     }

@@ -8,5 +8,5 @@ use Rattle.moves.proofs.make_move.Given as goal
 -- the lanes left lead to the end of the move, and no lane has more trays than the lanes so far can have brought it
 abbrev pub invariant-loop-step : goal.invariant-loop-step
 invariant-loop-step l =
-    (shifted l.amount (map signed_state (drop l.step l.path)) (at l.trays) ≡ shifted l.amount (map signed_state l.path) (at l.initial.trays))
-    × ((e : ℕ) → e < length l.trays → get_or l.trays e 0 ≤ top_cap + l.step * top_cap)
+    (shifted l.amount (map signed_state (drop l.step-index l.path)) (at l.trays) ≡ shifted l.amount (map signed_state l.path) (at l.initial.trays))
+    × ((e : ℕ) → e < length l.trays → get_or l.trays e 0 ≤ top_cap + l.step-index * top_cap)

@@ -1,7 +1,8 @@
 // The move of a step along its path: how many trays it moves, and the moving.
 #![tactic(auto)]
 
-ghost use Rattle.std.specs.Prelude.{◌≡◌, ℕ, suc, ◌+◌, ◌<◌, ◌≤◌, map, length, slice_index};
+ghost use Rattle.std.specs.Prelude.{◌≡◌, ℕ, suc, ◌+◌, ◌-◌, ◌<◌, ◌≤◌, min, map, fold, length, slice_index};
+ghost use Rattle.std.specs.List.{range_with_len};
 ghost use Rattle.floor.specs.Numbers.{most_lanes, top_cap};
 ghost use Rattle.network.specs.States.{applied};
 ghost use Rattle.rooms.specs.Rooms.{at};
@@ -118,6 +119,16 @@ fn through_at(standing: &Standing, path: &[SignedLane], place: usize) -> u32
     )
 }
 
+// The least of `most` and of what the lanes of the path after its first let through.
+fn least_through(standing: &Standing, path: &[SignedLane], most: u32) -> u32
+    requires { Among (lanes_of standing.now) (map signed_state path.now) }
+    ensures { result ≡ fold min most (map (through (meaning_of standing.now) (trays_of standing.now) (map signed_state path.now)) (range_with_len 1 (length path.now - 1))) }
+{
+    (1..path.len())
+        .map(|place| through_at(standing, path, place))
+        .fold(most, |least, next| least.min(next))
+}
+
 // The amount of a path: the least that a lane of it lets through.
 #[tactic(auto, using(crate::proofs::Amounts::amount_round))]
 pub fn amount_of(standing: &Standing, path: &[SignedLane]) -> u32
@@ -126,9 +137,7 @@ pub fn amount_of(standing: &Standing, path: &[SignedLane]) -> u32
     ensures { result ≡ amount_by_rooms (meaning_of standing.now) (trays_of standing.now) (map signed_state path.now) }
 {
     let first = through_at(standing, path, 0);
-    (1..path.len())
-        .map(|place| through_at(standing, path, place))
-        .fold(first, |least, next| least.min(next))
+    least_through(standing, path, first)
 }
 
 // The amount that is worked out from rooms is the amount of the rules.

@@ -24,10 +24,13 @@ returns-in_err-last-clause-found c =
     none_found M c.requires.lawful f (passed_is_plan M f c.requires.plan) marks
     (c.label_lanes.ensures.outcome ∙ ap (λ r. came_out r marks) c.in_err-last.was) in
     let rooms = with_items_is c.args.self.now.rooms c.measure.new.rooms (omega (arith, c.measure.ensures.all, c.requires.lanes, c.args.self.now.rooms.ok.0)) in
-    rw c.from_residual.ensures (found.0, record {
-      labelled = found.1;
-      measured = subst⁻¹ (EnteringRooms M f) rooms (λ e l. c.measure.ensures.each entering e (omega (arith, l, t.lanes.ok.0)));
-    })
+    rw c.from_residual.ensures (
+      found.0,
+      record {
+        labelled = found.1;
+        measured = subst⁻¹ (EnteringRooms M f) rooms (λ e l. c.measure.ensures.each entering e (omega (arith, l, t.lanes.ok.0)));
+      },
+    )
 
 pub amount_of-requires : goal.amount_of-requires
 amount_of-requires c =
@@ -54,8 +57,7 @@ returns-clause-found c =
     path_read M c.requires.lawful f (passed_is_plan M f c.requires.plan) (vec_len t.lanes) t.lanes.ok.0 c.label_lanes.result c.in_ok-last.field-0-0
     c.in_ok-last.last (marks_in c.label_lanes.new.labels) (map signed_state lanes) c.label_lanes.ensures.outcome c.in_ok-last.was c.in_ok-last.ensures.last
     c.read_back.ensures.states in
-    let amount = c.amount_of.ensures ∙ ap (λ p. amount_by_rooms M f (map signed_state p)) c.as_slice-2.ensures.value in
-    (
+    let amount = c.amount_of.ensures ∙ ap (λ p. amount_by_rooms M f (map signed_state p)) c.as_slice-2.ensures.value in (
       read.moves ∙ ap (λ n. some (record { lanes = map signed_state lanes; amount = n })) (sym amount),
       omega (arith, read.short, length-map lanes signed_state),
     )

@@ -1,5 +1,5 @@
 -- The bytes of the stations come first, and those of the lanes follow from them.
-use Rattle.std.proofs.Common.{◌≡◌, ap, ◌∙◌, arith}
+use Rattle.std.proofs.Common.{arith}
 use mathlib.Core.Path.{subst⁻¹}
 use Rattle.tables.specs.Tables.{meaning_in}
 use Rattle.labels.specs.Labels.{marks_in}

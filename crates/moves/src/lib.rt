@@ -120,7 +120,7 @@ fn through_at(standing: &Standing, path: &[SignedLane], place: usize) -> u32
 }
 
 // The least of `most` and of what the lanes of the path after its first let through.
-fn least_through(standing: &Standing, path: &[SignedLane], most: u32) -> u32
+fn least_after_first(standing: &Standing, path: &[SignedLane], most: u32) -> u32
     requires { Among (lanes_of standing.now) (map signed_state path.now) }
     ensures { result ≡ fold min most (map (through (meaning_of standing.now) (trays_of standing.now) (map signed_state path.now)) (range_with_len 1 (length path.now - 1))) }
 {
@@ -137,7 +137,7 @@ pub fn amount_of(standing: &Standing, path: &[SignedLane]) -> u32
     ensures { result ≡ amount_by_rooms (meaning_of standing.now) (trays_of standing.now) (map signed_state path.now) }
 {
     let first = through_at(standing, path, 0);
-    least_through(standing, path, first)
+    least_after_first(standing, path, first)
 }
 
 // The amount that is worked out from rooms is the amount of the rules.

@@ -1,5 +1,5 @@
 -- Each turn moves the trays of one lane.
-use Rattle.std.proofs.Common.{◌<◌, map, length, sym, ap, ◌∙◌, arith}
+use Rattle.std.proofs.Common.{map, length, sym, ap, ◌∙◌, arith}
 use Rattle.std.proofs.lemmas.List.{drop_all}
 use Rattle.rooms.specs.Rooms.{at}
 use Rattle.labelling.specs.Steps.{shifted}
@@ -9,16 +9,13 @@ use Rattle.moves.proofs.Reading.{lane_below}
 use Rattle.moves.proofs.Shifting.{shifted_more, applied_most}
 use Rattle.moves.proofs.make_move.Goals as goal
 
-pub move_lane-requires : goal.move_lane-requires
-move_lane-requires c =
-    let path = c.args.path.now in
-    let k = c.loop-step.step-index in
-    let on : (signed_at path k).lane < length c.loop-step.trays =
-    omega (arith, lane_below (length c.args.trays.now) path k c.loop-step-test.true c.requires.among, c.loop-step.auto.trays) in
-    record {
-      on = on;
-      fits = omega (arith, c.loop-step.invariant.1 (signed_at path k).lane on, c.requires.little, c.requires.short, c.loop-step-test.true);
-    }
+pub move_lane-requires-clause-on : goal.move_lane-requires-clause-on
+move_lane-requires-clause-on c =
+    omega (
+      arith,
+      lane_below (length c.args.trays.now) c.args.path.now c.loop-step.step-index c.loop-step-test.true c.requires.among,
+      c.loop-step.auto.trays,
+    )
 
 pub loop-step-preserved : goal.loop-step-preserved
 loop-step-preserved c =
@@ -34,12 +31,8 @@ loop-step-preserved c =
       ),
     )
 
-pub returns : goal.returns
+pub returns-clause-each : goal.returns-clause-each
 unfolding shifted
-returns c =
-    let path = c.args.path.now in
-    record {
-      all = c.loop-step.auto.trays;
-      each = λ e. sym (ap (λ p. shifted c.args.amount (map signed_state p) (at c.loop-step.trays) e) (drop_all c.loop-step.step-index path (omega arith)))
-          ∙ ap (λ f. f e) c.loop-step.invariant.0;
-    }
+returns-clause-each c =
+    λ e. sym (ap (λ p. shifted c.args.amount (map signed_state p) (at c.loop-step.trays) e) (drop_all c.loop-step.step-index c.args.path.now (omega arith)))
+    ∙ ap (λ f. f e) c.loop-step.invariant.0

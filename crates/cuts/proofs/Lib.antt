@@ -1,3 +1,2 @@
 pub mod Nearing
-pub mod Filling
 pub mod Bytes

@@ -1,20 +1,17 @@
--- What the sign of a lane's label and its room tell of the stations that it makes near.
-use Rattle.std.proofs.Common.{◌≡◌, ℕ, zero, suc, ◌<◌, Bool, true, false, cond, not, ◌&&◌, ◌||◌, eqb, ltb, List, get_or, Some, sym, refl, ap, ◌∙◌, ap₂, arith}
+-- Which stations the lanes make near, by their rooms.
+use Rattle.std.proofs.Common.{◌≡◌, ℕ, zero, suc, ◌<◌, Bool, true, false, cond, not, ◌&&◌, ◌||◌, eqb, ltb, List, length, refl, ap, ◌∙◌, ap₂, arith}
+use Rattle.std.proofs.lemmas.List.FromFn.{get_or-range_with_len, length-range_with_len}
+use Rattle.std.specs.List.{HoldsAt, AllWithin, range_with_len}
+use Rattle.std.specs.Bool.{MatchBool}
 use Rattle.polymatroid.specs.Finite.{first}
 use Rattle.floor.specs.Floor.{leaving, entering, stock}
 use Rattle.floor.specs.Meaning.{Meaning}
-use Rattle.labelling.specs.Table.{Mark, Blank, Given, mark, is_plus, is_minus}
+use Rattle.labelling.specs.Table.{Mark}
 use Rattle.labelling.specs.Near.{nears, near, plus_labelled, minus_labelled}
-use Rattle.labels.specs.declared.Sign.TheVariants as sign
-use Rattle.labels.specs.Labels.{sign_in}
+use Rattle.labels.proofs.Searches.{any_first}
+use Rattle.measures.specs.declared.lane_rooms.LaneRooms.{LaneRooms}
 use Rattle.measures.proofs.ByRooms.{full_is}
 use Rattle.cuts.specs.Cut.{EnteringRooms, nears_by_rooms, near_by_rooms}
-
--- a mark whose sign is +
-plus_is : (p : Mark) → Some sign.Plus ≡ sign_in p → (is_plus p ≡ true) × (is_minus p ≡ false)
-plus_is Blank q = let z : ◌≡◌ {A = ℕ} 0 1 = cc in absurd (omega arith)
-plus_is (Given true x k) q = (refl, refl)
-plus_is (Given false x k) q = let z : ◌≡◌ {A = ℕ} 0 1 = cc in absurd (omega arith)
 
 -- tests that agree below n have the same first number that passes
 same_first : (s t : ℕ → Bool) (n : ℕ) → ((i : ℕ) → i < n → s i ≡ t i) → first s n ≡ first t n
@@ -23,15 +20,17 @@ same_first s t zero h = refl
 same_first s t (suc n) h =
     ap₂ (λ k b. cond (ltb k n) k (cond b n (suc n))) (same_first s t n (λ i l. h i (omega arith))) (h n (omega arith))
 
-module _ (M : Meaning) (rooms : List ℕ) (t : List Mark) (i : ℕ) where
-  -- a + lane makes the station near that it enters, if it has room there
-  pub plus_nears : (e : ℕ) → Some sign.Plus ≡ sign_in (mark t e)
-      → (not (eqb (get_or rooms e 0) 0) && eqb (M.floor.end entering e) i) ≡ nears_by_rooms M rooms t i e
-  plus_nears e q =
-      let s = plus_is (mark t e) q in
-      sym (λ j.
-      (s.1 j && eqb (M.floor.end leaving e) i) || (s.0 j && (not (eqb (get_or rooms e 0) 0) && eqb (M.floor.end entering e) i)))
+-- what `any` over the numbers below n answers
+pub any_below : (t : ℕ → Bool) (n : ℕ) (b : Bool)
+    → MatchBool b ((k : ℕ) × (k < length (range_with_len 0 n)) × HoldsAt (λ e. t e ≡ true) (range_with_len 0 n) k) (AllWithin (λ e. t e ≡ false) (range_with_len 0 n) 0 (length (range_with_len 0 n)))
+    → b ≡ ltb (first t n) n
+any_below t n true q =
+    let low : q.0 < n = omega (arith, length-range_with_len 0 n, q.1) in
+    any_first t n true (q.0, low, ap t (omega (arith, get_or-range_with_len 0 n q.0 0 low)) ∙ q.2 0)
+any_below t n false q =
+    any_first t n false (λ k l. ap t (omega (arith, get_or-range_with_len 0 n k 0 l)) ∙ q k 0 (omega arith) (omega (arith, length-range_with_len 0 n)))
 
+module _ (M : Meaning) (rooms : List LaneRooms) (t : List Mark) (i : ℕ) where
   -- where these are the rooms of trays f, the same stations are near
   module _ (f : ℕ → ℕ) (are : EnteringRooms M f rooms) where
     pub nears_are : (e : ℕ) → e < M.floor.lanes → nears_by_rooms M rooms t i e ≡ nears M f t i e

@@ -8,20 +8,22 @@ use Rattle.labelling.specs.Table.{Mark}
 use Rattle.labelling.specs.Steps.{labels}
 use Rattle.labelling.specs.Near.{near, plus_labelled, minus_labelled, unlabelled}
 use Rattle.calls.specs.Does.{lane_byte, station_byte}
+use Rattle.measures.specs.declared.lane_rooms.LaneRooms.{LaneRooms}
 use Rattle.measures.specs.ByRooms.{room_at}
+use Rattle.measures.specs.Measures.{room_in}
 
 -- the list has the room of every lane where it enters
-abbrev pub EnteringRooms : Meaning → (ℕ → ℕ) → List ℕ → Type 0
-EnteringRooms M f rooms = (e : ℕ) → e < M.floor.lanes → slice_index rooms e ≡ room_at M f entering e
+abbrev pub EnteringRooms : Meaning → (ℕ → ℕ) → List LaneRooms → Type 0
+EnteringRooms M f rooms = (e : ℕ) → e < M.floor.lanes → room_in rooms entering e ≡ room_at M f entering e
 
 -- by these rooms lane e makes station i near: a - lane that leaves it, or a + lane that enters it and has room there
-abbrev pub nears_by_rooms : Meaning → List ℕ → List Mark → ℕ → ℕ → Bool
+abbrev pub nears_by_rooms : Meaning → List LaneRooms → List Mark → ℕ → ℕ → Bool
 nears_by_rooms M rooms t i e =
     (minus_labelled t e && M.floor.end leaving e == i)
-    || (plus_labelled t e && (not (slice_index rooms e == 0) && M.floor.end entering e == i))
+    || (plus_labelled t e && (not (room_in rooms entering e == 0) && M.floor.end entering e == i))
 
 -- the near stations by these rooms, whether or not they are those of any trays: the stock, and those that a lane makes near
-unfoldable pub near_by_rooms : Meaning → List ℕ → List Mark → ℕ → Bool
+unfoldable pub near_by_rooms : Meaning → List LaneRooms → List Mark → ℕ → Bool
 near_by_rooms M rooms t i = stock M.floor == i || nat_lt (first (nears_by_rooms M rooms t i) M.floor.lanes) M.floor.lanes
 
 -- the byte of a station, 1 near or 0 far

@@ -15,7 +15,7 @@ kept_move s n = record { lanes = map signed_state (vec_items s.path); amount = n
 -- the labels that are kept are those of the trays f, and so are the rooms where lanes enter: the cut can be read off them
 pub record Ready (M : Meaning) (f : ℕ → ℕ) (s : Search) : Type 0 where
   pub labelled : marks_in s.labels ≡ labels M f
-  pub measured : EnteringRooms M f (vec_items s.in_rooms)
+  pub measured : EnteringRooms M f (vec_items s.rooms)
 
 -- a search at the trays f finds the move of a step, which has no more lanes than the floor, or that there is none, and then the
 -- cut can be read

@@ -18,7 +18,7 @@ use loads::{is_plan, total_of};
 use moves::make_move;
 use searches::Search;
 use std::alloc::{AllocError, Global};
-use tables::Tables;
+use tables::{LoadedFloor, Tables};
 
 mod planner;
 
@@ -48,6 +48,17 @@ fn one_more(moves: u64) -> u64
 }
 
 impl Planner {
+    // The trays on the lanes of the floor.
+    fn floor(&self) -> LoadedFloor<'_>
+        ensures tables { result.tables.now ≡ self.now.tables }
+        ensures trays { result.trays.now ≡ self.now.trays.items }
+    {
+        LoadedFloor {
+            tables: &self.tables,
+            trays: self.trays.as_slice(),
+        }
+    }
+
     // A plan with no trays, on the tables of a lawful plant.
     pub fn open(heap: Global, tables: Tables) -> Result<Planner, AllocError>
         requires { Lawful (meaning_in tables) }
@@ -77,7 +88,11 @@ impl Planner {
         if given.len() != self.tables.lanes.len() {
             return Err(Unfit::Length);
         }
-        if !is_plan(&self.tables, given) {
+        let floor = LoadedFloor {
+            tables: &self.tables,
+            trays: given,
+        };
+        if !is_plan(&floor) {
             return Err(Unfit::Load);
         }
         self.trays.copy_from_slice(given);
@@ -93,9 +108,16 @@ impl Planner {
         if self.finished {
             return None;
         }
-        let Some(amount) = self.search.find(&self.tables, self.trays.as_slice()) else {
-            self.search
-                .show_cut(&self.tables, &mut self.cut_lanes, &mut self.cut_stations);
+        let floor = LoadedFloor {
+            tables: &self.tables,
+            trays: self.trays.as_slice(),
+        };
+        let Some(amount) = self.search.find(&floor) else {
+            self.search.show_cut(
+                &self.tables,
+                self.cut_lanes.as_mut_slice(),
+                self.cut_stations.as_mut_slice(),
+            );
             self.finished = true;
             return None;
         };
@@ -133,7 +155,7 @@ impl Planner {
     pub fn total(&self) -> u64
         ensures { Did self.now (told_total result) self.now }
     {
-        total_of(&self.tables, self.trays.as_slice())
+        total_of(&self.floor())
     }
 
     // How many moves were made since the opening or the last accepted load.

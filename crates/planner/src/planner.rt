@@ -24,7 +24,7 @@ pub struct Planner {
     // every lane has its trays
     ghost all_trays: { vec_len trays ≡ vec_len tables.lanes },
     // a search has a place for every lane
-    ghost all_searched: { vec_len search.out_rooms ≡ vec_len tables.lanes },
+    ghost all_searched: { vec_len search.rooms ≡ vec_len tables.lanes },
     // the cut has a byte for every lane
     ghost all_lanes: { vec_len cut_lanes ≡ vec_len tables.lanes },
     // and one for every station

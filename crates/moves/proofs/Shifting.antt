@@ -7,13 +7,16 @@ use Rattle.floor.specs.Numbers.{top_cap}
 use Rattle.network.specs.States.{State, Pole, Plus, Minus, applied}
 use Rattle.rooms.specs.Rooms.{at}
 use Rattle.labelling.specs.Steps.{shifted}
+use Rattle.labelling.specs.Table.{signed}
+use Rattle.labels.specs.declared.Sign.{Sign}
+use Rattle.labels.specs.declared.Sign.TheVariants as sign
 use Rattle.labels.specs.declared.SignedLane.{SignedLane}
-use Rattle.labels.specs.Labels.{signed_state}
+use Rattle.labels.specs.Labels.{is_plus, signed_state}
 use Rattle.moves.specs.Paths.{Among, signed_at}
 use Rattle.moves.proofs.Reading.{lane_below}
 
 -- more trays, or fewer, are put at the place of a lane
-pub set_plus : (xs : List ℕ) (h n v : ℕ) → h < length xs → v ≡ get_or xs h 0 + n → (e : ℕ) → get_or (set xs h v) e 0 ≡ plus (at xs) h n e
+set_plus : (xs : List ℕ) (h n v : ℕ) → h < length xs → v ≡ get_or xs h 0 + n → (e : ℕ) → get_or (set xs h v) e 0 ≡ plus (at xs) h n e
 unfolding plus
 set_plus xs h n v l q e = elim (cases_eq e h) [
   | inl s ↦
@@ -21,13 +24,20 @@ set_plus xs h n v l q e = elim (cases_eq e h) [
   | inr s ↦ get_or-set_other xs h e v 0 s ∙ sym (cond-false _ _ _ (ne_eqb e h s))
 ]
 
-pub set_minus : (xs : List ℕ) (h n v : ℕ) → h < length xs → v ≡ get_or xs h 0 - n → (e : ℕ) → get_or (set xs h v) e 0 ≡ minus (at xs) h n e
+set_minus : (xs : List ℕ) (h n v : ℕ) → h < length xs → v ≡ get_or xs h 0 - n → (e : ℕ) → get_or (set xs h v) e 0 ≡ minus (at xs) h n e
 unfolding minus
 set_minus xs h n v l q e = elim (cases_eq e h) [
   | inl s ↦
       ap (λ i. get_or (set xs h v) i 0) s ∙ get_or-set_same xs h v 0 l ∙ q ∙ ap (λ i. get_or xs i 0 - n) (sym s) ∙ sym (cond-true _ _ _ (eq-eqb e h s))
   | inr s ↦ get_or-set_other xs h e v 0 s ∙ sym (cond-false _ _ _ (ne_eqb e h s))
 ]
+
+module _ (xs : List ℕ) (s : SignedLane) (n v : ℕ) where
+  pub moved_plus : s.sign ≡ sign.Plus → s.lane < length xs → v ≡ get_or xs s.lane 0 + n → at (set xs s.lane v) ≡ applied n (signed_state s) (at xs)
+  moved_plus is l q i e = (set_plus xs s.lane n v l q e ∙ sym (ap (λ (g : Sign). applied n (signed (is_plus g) s.lane) (at xs) e) is)) i
+
+  pub moved_minus : s.sign ≡ sign.Minus → s.lane < length xs → v ≡ get_or xs s.lane 0 - n → at (set xs s.lane v) ≡ applied n (signed_state s) (at xs)
+  moved_minus is l q i e = (set_minus xs s.lane n v l q e ∙ sym (ap (λ (g : Sign). applied n (signed (is_plus g) s.lane) (at xs) e) is)) i
 
 -- no lane has more than n trays more
 pub applied_most : (n : ℕ) (x : State) (f : ℕ → ℕ) (e : ℕ) → applied n x f e ≤ f e + n

@@ -19,21 +19,21 @@ use measures::room_zeroing;
 use scans::Standing;
 
 // Trays more on a + lane, or fewer on a - lane.
-#[tactic(auto, using(crate::proofs::Shifting::set_plus, crate::proofs::Shifting::set_minus))]
+#[tactic(auto, using(crate::proofs::Shifting::moved_plus, crate::proofs::Shifting::moved_minus))]
 fn move_lane(step: SignedLane, amount: u32, trays: &mut [u32])
     requires on { step.lane < length trays.old }
     requires fits { slice_index trays.old step.lane + amount < 4294967296 }
     ensures all { length trays.new ≡ length trays.old }
-    ensures each { (e : ℕ) → slice_index trays.new e ≡ applied amount (signed_state step) (at trays.old) e }
+    ensures each { at trays.new ≡ applied amount (signed_state step) (at trays.old) }
 {
-    let held = trays[step.lane];
-    trays[step.lane] = match step.sign {
-        Sign::Plus => held + amount,
-        Sign::Minus => held.saturating_sub(amount),
-    };
+    match step.sign {
+        Sign::Plus => trays[step.lane] += amount,
+        Sign::Minus => trays[step.lane] = trays[step.lane].saturating_sub(amount),
+    }
 }
 
 // Moves an amount of trays along a path: so many more on each + lane, so many fewer on each - lane.
+#[tactic(auto, using(crate::proofs::Shifting::moving_on, crate::proofs::Shifting::moving_all))]
 pub fn make_move(path: &[SignedLane], amount: u32, trays: &mut [u32])
     requires among { Among (length trays.old) (map signed_state path.now) }
     requires short { length path.now ≤ most_lanes }

@@ -49,7 +49,7 @@ impl<'a, P: Plant> PlantSide<'a, P> {
         self.plant.cap(self.side, set).unwrap()
     }
 
-    // The numbers of the lanes, by position.
+    // The numbers of the lanes, by position. The places past the last lane stay 0, so the loop goes over the positions.
     fn numbers(&self) -> [usize; MOST_ON_SIDE]
         ensures { take self.now.width result ≡ lanes_on (P.meaning self.now.plant.now).floor self.now.side }
     {

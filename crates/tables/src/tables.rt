@@ -20,7 +20,8 @@ pub struct TableLane {
     pub entering: LaneEnd,
 }
 
-// A side: how many lanes it has, their numbers by position, and where its caps begin.
+// A side: how many lanes it has, their numbers by position, and where its caps begin. A row can be copied, so it owns no list: the
+// numbers have a place for each lane that a side may have, and the caps of all sides are in one list of the tables.
 #[derive(Clone, Copy)]
 pub struct TableSide {
     pub width: usize,

@@ -1,59 +1,59 @@
--- The sum of the own caps of the members of a set, over a list of the lanes' own caps.
-use Rattle.std.proofs.Common.{◌≡◌, ℕ, zero, suc, ◌+◌, ◌*◌, ◌<◌, ◌≤◌, Bool, true, false, cond, List, [], ◌∷◌, ◌++◌, length, get_or, take, refl, sym, ap, ◌∙◌, add-zero, add-one, zero-add, arith}
-use Rattle.std.specs.List.{enumerate_from, filter, sum_by}
-use Rattle.std.proofs.lemmas.List.{take_more, length-take-le, take_all}
-use Rattle.std.proofs.lemmas.List.Elements.{filter-append}
+-- The sum of the own caps of the members of a set, over the positions of a side.
+use Rattle.std.proofs.Common.{◌≡◌, ℕ, zero, suc, ◌+◌, ◌*◌, ◌<◌, ◌≤◌, Bool, true, false, cond, List, [], ◌∷◌, ◌++◌, length, get_or, refl, sym, ap, ◌∙◌, add-zero, zero-add, arith}
+use mathlib.Core.Path.{subst⁻¹}
+use Rattle.std.specs.List.{filter, range_with_len, sum_by}
+use Rattle.std.proofs.lemmas.List.Elements.{All-get_or, All-from_get_or, All-filter, filter-append}
+use Rattle.std.proofs.lemmas.List.FromFn.{length-range_with_len, get_or-range_with_len}
 use Rattle.std.proofs.lemmas.List.Sums.{sum_by-append}
 use Rattle.polymatroid.specs.Sets.{has}
 use Rattle.polymatroid.specs.Side.{load}
-use Rattle.polymatroid.specs.Kinds.{plain}
 use Rattle.polymatroid.proofs.Grades.{load_top}
 
--- the own cap of a lane that stands with its position, and the sum of those of a list
-abbrev pub second : ℕ × ℕ → ℕ
-second p = p.1
+-- the members of a set among the first n positions
+abbrev pub members : ℕ → ℕ → List ℕ
+members X n = filter (has X) (range_with_len 0 n)
 
-abbrev pub total : List (ℕ × ℕ) → ℕ
-total ps = sum_by second ps
+-- what stands at a place of the first n positions is one of them
+pub range_below : (n i p : ℕ) → i < length (range_with_len 0 n) → p ≡ get_or (range_with_len 0 n) i p → p < n
+range_below n i p l is =
+    let long = length-range_with_len 0 n in
+    omega (arith, is, get_or-range_with_len 0 n i p (omega arith))
 
--- the own caps of the members of a set, each with its position
-abbrev pub members : ℕ → List ℕ → List (ℕ × ℕ)
-members X xs = filter (λ p. has X p.0) (enumerate_from 0 xs)
+-- and so is what stands at a place of the members
+pub member_below : (X n i p : ℕ) → i < length (members X n) → p ≡ get_or (members X n) i p → p < n
+member_below X n i p l is =
+    let long = length-range_with_len 0 n in
+    subst⁻¹ (λ q. q < n) is
+    (All-get_or (λ q. q < n) (members X n) i p l
+    (All-filter (has X) (λ q. q < n) (range_with_len 0 n)
+    (All-from_get_or (λ q. q < n) (range_with_len 0 n) 0 (λ k m. omega (arith, get_or-range_with_len 0 n k 0 (omega arith))))))
 
--- one lane more behind the others
-enumerate_push : (n : ℕ) (xs : List ℕ) (y k : ℕ) → n + length xs ≡ k → enumerate_from n (xs ++ y ∷ []) ≡ enumerate_from n xs ++ (k, y) ∷ []
-enumerate_push n [] y k e = ap (λ i. (i, y) ∷ []) (sym (add-zero n) ∙ e)
-enumerate_push n (x ∷ xs) y k e = ap (λ ps. (n, x) ∷ ps) (enumerate_push (n + 1) xs y k (omega arith))
+-- one position more behind the others
+range_push : (a n : ℕ) → range_with_len a (suc n) ≡ range_with_len a n ++ (a + n) ∷ []
+range_push a zero = ap (λ p. p ∷ []) (sym (add-zero a))
+range_push a (suc n) =
+    ap (λ ps. a ∷ ps) (range_push (a + 1) n)
+    ∙ ap (λ p. a ∷ (range_with_len (a + 1) n ++ p ∷ [])) (let e : a + 1 + n ≡ a + suc n = omega arith in e)
 
--- the lane that comes last counts if it is a member
-last_counts : (X n y : ℕ) → total (filter (λ p. has X p.0) ((n, y) ∷ [])) ≡ cond (has X n) y 0
-last_counts X n y = by (has X n)
-  where
-    by : (b : Bool) → total (cond b ((n, y) ∷ []) []) ≡ cond b y 0
-    by true = zero-add y
-    by false = refl
+module _ (w : ℕ → ℕ) (X : ℕ) where
+  -- the position that comes last counts if it is a member
+  last_counts : (n : ℕ) → sum_by w (filter (has X) (n ∷ [])) ≡ cond (has X n) (w n) 0
+  last_counts n = by (has X n)
+    where
+      by : (b : Bool) → sum_by w (cond b (n ∷ []) []) ≡ cond b (w n) 0
+      by true = zero-add (w n)
+      by false = refl
 
-module _ (xs : List ℕ) (X : ℕ) where
-  -- the sum over the first n lanes
-  load_listed : (n : ℕ) → n ≤ length xs → total (members X (take n xs)) ≡ load (λ p. get_or xs p 0) n X
+  -- the sum over the first n positions
+  pub load_listed : (n : ℕ) → sum_by w (members X n) ≡ load w n X
   unfolding load
-  load_listed zero l = refl
-  load_listed (suc n) l =
-      let y = get_or xs n 0 in
-      let all = enumerate_push 0 (take n xs) y n (omega (arith, length-take-le n xs (omega arith))) in
-      ap (λ m. total (members X (take m xs))) (sym (add-one n))
-      ∙ ap (λ ys. total (members X ys)) (take_more xs n 0 (omega arith))
-      ∙ ap (λ ps. total (filter (λ p. has X p.0) ps)) all
-      ∙ ap total (filter-append (λ (p : ℕ × ℕ). has X p.0) (enumerate_from 0 (take n xs)) ((n, y) ∷ []))
-      ∙ sum_by-append second (members X (take n xs)) (filter (λ p. has X p.0) ((n, y) ∷ []))
-      ∙ (λ i. load_listed n (omega arith) i + last_counts X n y i)
-
-  -- the sum over all of them
-  pub plain_listed : total (members X xs) ≡ plain (λ p. get_or xs p 0) (length xs) X
-  unfolding plain
-  plain_listed = ap (λ ys. total (members X ys)) (sym (take_all (length xs) xs (omega arith))) ∙ load_listed (length xs) (omega arith)
+  load_listed zero = refl
+  load_listed (suc n) =
+      ap (λ ps. sum_by w (filter (has X) ps)) (range_push 0 n ∙ ap (λ p. range_with_len 0 n ++ p ∷ []) (zero-add n))
+      ∙ ap (sum_by w) (filter-append (has X) (range_with_len 0 n) (n ∷ []))
+      ∙ sum_by-append w (members X n) (filter (has X) (n ∷ []))
+      ∙ (λ i. load_listed n i + last_counts n i)
 
   -- it is low where each own cap is
-  pub plain_low : (top : ℕ) → ((p : ℕ) → p < length xs → get_or xs p 0 ≤ top) → total (members X xs) ≤ length xs * top
-  unfolding plain
-  plain_low top low = omega (arith, plain_listed, load_top (λ p. get_or xs p 0) top (length xs) X low)
+  pub load_low : (top n : ℕ) → ((p : ℕ) → p < n → w p ≤ top) → sum_by w (members X n) ≤ n * top
+  load_low top n low = omega (arith, load_listed n, load_top w top n X low)

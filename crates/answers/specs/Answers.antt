@@ -9,11 +9,11 @@ use Rattle.limits.specs.declared.Limit.{Limit}
 use Rattle.answers.specs.Content.{file_meaning}
 use Rattle.answers.specs.declared.file_plant.FilePlant.{FilePlant}
 
--- the lanes of a side by position
-pub record Lists (F : Floor) (s : ℕ) (lanes : List ℕ) : Type 0 where
-  pub few : length lanes ≤ most_on_side
-  pub all : length lanes ≡ width F s
-  pub each : (p : ℕ) → p < width F s → slice_index lanes p ≡ lane_at F (end_of s) (station_of s) p
+-- the first numbers of a list, as many as the count, are the lanes of a side by position
+pub record Lists (F : Floor) (s : ℕ) (numbers : List ℕ) (count : ℕ) : Type 0 where
+  pub few : count ≤ most_on_side
+  pub all : count ≡ width F s
+  pub each : (p : ℕ) → p < width F s → slice_index numbers p ≡ lane_at F (end_of s) (station_of s) p
 
 -- the own caps of the lanes of a side of a file plant, by position
 abbrev pub owns : FilePlant → ℕ → ℕ → ℕ

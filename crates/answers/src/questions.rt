@@ -8,9 +8,8 @@ ghost use Rattle.answers.specs.Answers.{limit_seen};
 
 use crate::file_plant::FilePlant;
 use crate::side_lanes::SideLanes;
-use arrayvec::ArrayVec;
 use limits::Limit;
-use plant::{OffFloor, Plant};
+use plant::{MOST_ON_SIDE, OffFloor, Plant};
 use plantformat::Lane;
 
 // The station at an end of a lane.
@@ -36,16 +35,19 @@ impl<'a> FilePlant<'a> {
     {
         let station = side / 2;
         let entering = side % 2 == 1;
-        let mut lanes = ArrayVec::new();
+        let mut numbers = [0; MOST_ON_SIDE];
+        let mut count = 0;
         for (number, lane) in self.lanes.iter().enumerate() {
             if lane_end(*lane, entering) == station {
-                lanes.push(number);
+                numbers[count] = number;
+                count += 1;
             }
         }
         SideLanes {
             plant: self,
             side,
-            lanes,
+            numbers,
+            count,
         }
     }
 
@@ -102,7 +104,7 @@ impl Plant for FilePlant<'_> {
 
     fn lane_at(&self, side: usize, position: usize) -> Result<usize, OffFloor> {
         let on = self.side_asked(side)?;
-        on.lanes.get(position).copied().ok_or(OffFloor)
+        on.lanes().get(position).copied().ok_or(OffFloor)
     }
 
     fn cap(&self, side: usize, set: usize) -> Result<u32, OffFloor> {

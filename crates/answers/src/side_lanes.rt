@@ -1,12 +1,11 @@
 // The lanes of a side of a file plant, and the caps of their sets.
-ghost use Rattle.std.specs.Prelude.{◌≡◌, ℕ, ◌*◌, ◌^◌, ◌<◌, ◌≤◌, length, slice_index};
+ghost use Rattle.std.specs.Prelude.{◌≡◌, ℕ, ◌*◌, ◌^◌, ◌<◌, ◌≤◌, None, length, slice_index};
 ghost use Rattle.arrayvec.specs.ArrayVec.{array_vec_len};
-ghost use Rattle.polymatroid.specs.Kinds.{plain};
 ghost use Rattle.floor.specs.Floor.{width};
 ghost use Rattle.floor.specs.Numbers.{most_on_side};
 ghost use Rattle.plantformat.specs.Numbers.{top_lane};
 ghost use Rattle.answers.specs.Content.{file_meaning};
-ghost use Rattle.answers.specs.Answers.{Lists, Owns, side_cap};
+ghost use Rattle.answers.specs.Answers.{Lists, owns, Owns, limit_cap, side_cap};
 
 use crate::file_plant::FilePlant;
 use arrayvec::ArrayVec;
@@ -14,29 +13,17 @@ use limits::cap_of;
 use plant::MOST_ON_SIDE;
 use setcodes::contains;
 
-// A side of a file plant, and the numbers of its lanes by position.
-#[derive(Drop)]
+// A side of a file plant, with the numbers of its lanes by position, and how many there are.
+#[derive(Clone, Copy)]
 pub struct SideLanes<'p, 'a> {
     pub plant: &'p FilePlant<'a>,
     pub side: usize,
-    pub lanes: ArrayVec<usize, MOST_ON_SIDE>,
+    pub numbers: [usize; MOST_ON_SIDE],
+    pub count: usize,
     // the side is on the floor
     ghost on_floor: { side < 2 * plant.now.head.stations },
     // the lanes are all of the side's, in lane order
-    ghost lists: { Lists (file_meaning plant.now).floor side lanes.items },
-}
-
-// The cap of a set of lanes without a limit: the sum of the lanes' own caps.
-fn plain_cap(own: &[u32], set: usize) -> u32
-    requires narrow { length own.now ≤ most_on_side }
-    requires low { (p : ℕ) → p < length own.now → slice_index own.now p ≤ top_lane }
-    ensures { result ≡ plain (λ p. slice_index own.now p) (length own.now) set }
-{
-    own.iter()
-        .enumerate()
-        .filter(|(position, _)| contains(set, *position))
-        .map(|(_, cap)| *cap)
-        .sum()
+    ghost lists: { Lists (file_meaning plant.now).floor side numbers count },
 }
 
 impl SideLanes<'_, '_> {
@@ -45,7 +32,23 @@ impl SideLanes<'_, '_> {
         ensures value { result ≡ width (file_meaning self.now.plant.now).floor self.now.side }
         ensures few { result ≤ most_on_side }
     {
-        self.lanes.len()
+        self.count
+    }
+
+    // The numbers of the lanes, by position.
+    pub(crate) fn lanes(&self) -> &[usize]
+        ensures { Lists (file_meaning self.now.plant.now).floor self.now.side result.now (length result.now) }
+    {
+        &self.numbers[..self.count]
+    }
+
+    // The own cap of the lane at a position.
+    fn own_at(&self, position: usize) -> u32
+        requires { position < self.now.count }
+        ensures value { result ≡ owns self.now.plant.now self.now.side position }
+        ensures low { result ≤ top_lane }
+    {
+        self.plant.lanes[self.numbers[position]].own
     }
 
     // The own caps of the lanes, by position.
@@ -54,10 +57,20 @@ impl SideLanes<'_, '_> {
         ensures low { (p : ℕ) → p < array_vec_len result → slice_index result.items p ≤ top_lane }
     {
         let mut own = ArrayVec::new();
-        for lane in self.lanes.iter() {
+        for lane in self.lanes() {
             own.push(self.plant.lanes[*lane].own);
         }
         own
+    }
+
+    // The cap of a set of the lanes of a side without a limit: the sum of the lanes' own caps.
+    fn plain_cap(&self, set: usize) -> u32
+        ensures { result ≡ limit_cap self.now.plant.now self.now.side None set }
+    {
+        (0..self.count)
+            .filter(|position| contains(set, *position))
+            .map(|position| self.own_at(position))
+            .sum()
     }
 
     // The cap of a set of the lanes, by the limit of the side.
@@ -65,10 +78,9 @@ impl SideLanes<'_, '_> {
         requires { set < 2 ^ width (file_meaning self.now.plant.now).floor self.now.side }
         ensures { result ≡ side_cap self.now.plant.now self.now.side set }
     {
-        let own = self.own_caps();
         match self.plant.limit_of(self.side) {
-            Some(limit) => cap_of(limit, &own, set),
-            None => plain_cap(&own, set),
+            Some(limit) => cap_of(limit, &self.own_caps(), set),
+            None => self.plain_cap(set),
         }
     }
 }

@@ -1,46 +1,69 @@
--- What rows that tell of a plant have: the lanes and caps of each side, the position of a lane, and what all rows tell together.
-use Rattle.std.proofs.Common.{◌≡◌, ℕ, ◌+◌, ◌^◌, ◌<◌, Bool, true, false, List, [], ◌∷◌, ◌++◌, length, get_or, Contains, map, vec_items, sym, ap, ◌∙◌, arith}
+-- What rows that tell of a plant have: one row more, the lanes of each side, the position of a lane, and what all rows tell together.
+use Rattle.std.proofs.Common.{◌≡◌, ℕ, ◌+◌, ◌^◌, ◌<◌, Bool, true, false, List, [], ◌∷◌, ◌++◌, length, get_or, Contains, sym, ap, ◌∙◌, subst, inl, inr, arith, length-append}
 use mathlib.Core.Path.{subst⁻¹}
-use Rattle.std.specs.List.{range_with_len}
-use Rattle.std.proofs.lemmas.List.{map-append, length-map}
-use Rattle.std.proofs.lemmas.List.FromFn.{length-map-range_with_len, get_or-map-range_with_len, map-range_with_len_more}
-use Rattle.std.proofs.lemmas.Bool.{eq-eqb}
+use Rattle.std.proofs.lemmas.List.{length_push, get_or_push, get_or_append_left, get_or-append-add}
+use Rattle.std.proofs.lemmas.List.FromFn.{length-map-range_with_len, get_or-map-range_with_len}
+use Rattle.std.proofs.lemmas.Bool.{cases_lt, eq-eqb}
 use Rattle.floor.specs.Floor.{Floor, leaving, entering, side, sides, end_of, station_of, on, place, count, lane_at, width}
 use Rattle.floor.specs.Meaning.{Meaning}
 use Rattle.floor.proofs.Places.{end_of_side, station_of_side, side_below, place_below, lane_at_placed, lane_at_place}
-use Rattle.tables.specs.Parts.{lane_in, lanes_in, caps_in, table_meaning}
+use Rattle.tables.specs.Parts.{lane_in, side_in, table_meaning}
 use Rattle.tables.specs.Agreement.{Agrees}
-use Rattle.tables.specs.Told.{lanes_on, caps_on, SideTold, SidesTold, end_told, lane_told, lanes_told}
+use Rattle.tables.specs.Told.{lanes_on, caps_on, SideTold, SidesTold, SideCapped, SidesCapped, end_told, lane_told, lanes_told}
 use Rattle.tables.specs.declared.tables.LaneEnd.{LaneEnd}
 use Rattle.tables.specs.declared.tables.TableLane.{TableLane}
 use Rattle.tables.specs.declared.tables.TableSide.{TableSide}
 
 -- ---- one row more
 
-pub sides_more : (M : Meaning) (n : ℕ) (rows after : List TableSide) (row : TableSide) → after ≡ rows ++ row ∷ [] → SidesTold M n rows
-    → SideTold M n row → SidesTold M (n + 1) after
-sides_more M n rows after row is t h = subst⁻¹ (SidesTold M (n + 1)) is (record {
-  lanes = more (λ (r : TableSide). vec_items r.lanes) (lanes_on M.floor) t.lanes h.lanes;
-  caps = more (λ (r : TableSide). vec_items r.caps) (caps_on M) t.caps h.caps;
-})
+-- what holds of every row so far, and of the next, holds of all rows with it
+each_push : {X : Type 0} (P : ℕ → X → Type 0) (rows : List X) (row d : X) (n : ℕ) → length rows ≡ n
+    → ((k : ℕ) → k < n → P k (get_or rows k d)) → P n row → (k : ℕ) → k < n + 1 → P k (get_or (rows ++ row ∷ []) k d)
+each_push P rows row d n long before here k h =
+    elim (cases_lt k n) [
+      | inl l ↦ subst⁻¹ (P k) (get_or_append_left rows (row ∷ []) d k (omega arith)) (before k l)
+      | inr l ↦
+          let same : n ≡ k = omega arith in
+          subst⁻¹ (P k) (get_or_push rows row d k (long ∙ same)) (subst (λ v. P v row) same here)
+    ]
+
+pub sides_more : (F : Floor) (n : ℕ) (rows after : List TableSide) (row : TableSide) → after ≡ rows ++ row ∷ [] → SidesTold F n rows
+    → SideTold F n row → SidesTold F (n + 1) after
+sides_more F n rows after row is t h = subst⁻¹ (SidesTold F (n + 1)) is more
   where
-    more : (of : TableSide → List ℕ) (on : ℕ → List ℕ) → map of rows ≡ map on (range_with_len 0 n) → of row ≡ on n
-        → map of (rows ++ row ∷ []) ≡ map on (range_with_len 0 (n + 1))
-    more of on before here =
-        map-append of rows (row ∷ []) ∙ (λ i. before i ++ here i ∷ []) ∙ sym (map-range_with_len_more on 0 n n (omega arith))
+    more : SidesTold F (n + 1) (rows ++ row ∷ [])
+    more = record {
+      all = length_push rows row ∙ ap (λ v. v + 1) t.all;
+      each = each_push (SideTold F) rows row _ n t.all t.each h;
+    }
 
--- ---- a side
+-- caps that are added change none that are there
+capped_longer : (M : Meaning) (s : ℕ) (row : TableSide) (caps more : List ℕ) → SideCapped M s row caps → SideCapped M s row (caps ++ more)
+capped_longer M s row caps more t = record {
+  all = omega (arith, length-append caps more, t.all);
+  each = λ X h. get_or_append_left caps more 0 (row.start + X) (omega (arith, t.all)) ∙ t.each X h;
+}
 
-module _ (M : Meaning) (n : ℕ) (rows : List TableSide) (told : SidesTold M n rows) where
-  pub lanes_are : (s : ℕ) → s < n → lanes_in rows s ≡ lanes_on M.floor s
-  lanes_are s h = ap (λ xs. get_or xs s []) told.lanes ∙ get_or-map-range_with_len (lanes_on M.floor) 0 n s s [] h (omega arith)
+-- the caps of a side stand where they are added
+capped_here : (M : Meaning) (s : ℕ) (row : TableSide) (caps : List ℕ) → row.start ≡ length caps → SideCapped M s row (caps ++ caps_on M s)
+capped_here M s row caps at = record {
+  all = omega (arith, length-append caps (caps_on M s), length-map-range_with_len (M.cap (end_of s) (station_of s)) 0 (2 ^ width M.floor s));
+  each = λ X h.
+      ap (λ v. get_or (caps ++ caps_on M s) (v + X) 0) at
+      ∙ get_or-append-add caps (caps_on M s) X 0
+      ∙ get_or-map-range_with_len (M.cap (end_of s) (station_of s)) 0 (2 ^ width M.floor s) X X 0 h (omega arith);
+}
 
-  pub caps_are : (s : ℕ) → s < n → caps_in rows s ≡ caps_on M s
-  caps_are s h = ap (λ xs. get_or xs s []) told.caps ∙ get_or-map-range_with_len (caps_on M) 0 n s s [] h (omega arith)
-
-  pub rows_are : length rows ≡ n
-  rows_are =
-      sym (length-map rows (λ (r : TableSide). vec_items r.lanes)) ∙ ap length told.lanes ∙ length-map-range_with_len (lanes_on M.floor) 0 n
+pub capped_more : (M : Meaning) (n : ℕ) (rows after : List TableSide) (row : TableSide) (caps longer : List ℕ) → after ≡ rows ++ row ∷ []
+    → longer ≡ caps ++ caps_on M n → length rows ≡ n → row.start ≡ length caps → SidesCapped M n rows caps
+    → SidesCapped M (n + 1) after longer
+capped_more M n rows after row caps longer is added long at t =
+    subst⁻¹ (λ v. SidesCapped M (n + 1) v longer) is (subst⁻¹ (SidesCapped M (n + 1) (rows ++ row ∷ [])) added more)
+  where
+    more : SidesCapped M (n + 1) (rows ++ row ∷ []) (caps ++ caps_on M n)
+    more =
+        each_push (λ s r. SideCapped M s r (caps ++ caps_on M n)) rows row _ n long
+        (λ s h. capped_longer M s (side_in rows s) caps (caps_on M n) (t s h)) (capped_here M n row caps at)
 
 -- ---- an end of a lane
 
@@ -62,9 +85,9 @@ module _ (F : Floor) (d : Bool) (i : ℕ) where
       ∙ lane_at_side p
 
 -- the row of a side of a station has the lanes there
-pub side_lanes : (M : Meaning) (rows : List TableSide) → SidesTold M (sides M.floor) rows → (d : Bool) (i : ℕ) → i < M.floor.stations
-    → lanes_in rows (side d i) ≡ lanes_on M.floor (side d i)
-side_lanes M rows told d i h = lanes_are M (sides M.floor) rows told (side d i) (side_below d i M.floor.stations h)
+pub side_told : (F : Floor) (rows : List TableSide) → SidesTold F (sides F) rows → (d : Bool) (i : ℕ) → i < F.stations
+    → SideTold F (side d i) (side_in rows (side d i))
+side_told F rows told d i h = told.each (side d i) (side_below d i F.stations h)
 
 -- a lane is among those of the side where it ends
 pub lane_there : (F : Floor) (d : Bool) (e i : ℕ) (lanes : List ℕ) → e < F.lanes → i ≡ F.end d e → lanes ≡ lanes_on F (side d i) → Contains lanes e
@@ -92,17 +115,17 @@ end_is F d e i lanes x at is here within found = λ k. record { station = (here 
 
 -- ---- all rows
 
--- tables with all rows agree with what they tell of
-module _ (M : Meaning) (n a b : ℕ) (lanes : List TableLane) (rows : List TableSide) (same : n ≡ M.floor.stations)
+-- tables with all rows and caps agree with what they tell of
+module _ (M : Meaning) (n a b : ℕ) (lanes : List TableLane) (rows : List TableSide) (caps : List ℕ) (same : n ≡ M.floor.stations)
     (stock : a ≡ M.floor.pole leaving) (despatch : b ≡ M.floor.pole entering) (told : lanes ≡ lanes_told M.floor M.floor.lanes)
-    (sided : SidesTold M (sides M.floor) rows) where
+    (capped : SidesCapped M (sides M.floor) rows caps) where
   pub all_lanes : length lanes ≡ M.floor.lanes
   all_lanes = ap length told ∙ length-map-range_with_len (lane_told M.floor) 0 M.floor.lanes
 
   pub lane_is : (e : ℕ) → e < M.floor.lanes → lane_in lanes e ≡ lane_told M.floor e
   lane_is e h = ap (λ xs. lane_in xs e) told ∙ get_or-map-range_with_len (lane_told M.floor) 0 M.floor.lanes e e _ h (omega arith)
 
-  pub told_agrees : Agrees M (table_meaning n a b lanes rows)
+  pub told_agrees : Agrees M (table_meaning n a b lanes rows caps)
   told_agrees = record {
     stations = same;
     lanes = all_lanes;
@@ -110,17 +133,15 @@ module _ (M : Meaning) (n a b : ℕ) (lanes : List TableLane) (rows : List Table
     ends = ends;
     caps = λ d i X h l.
         let s = side d i in
-        ap (λ xs. get_or xs X 0) (caps_are M (sides M.floor) rows sided s (side_below d i M.floor.stations h))
-        ∙ get_or-map-range_with_len (M.cap (end_of s) (station_of s)) 0 (2 ^ width M.floor s) X X 0
-        (subst⁻¹ (λ k. X < 2 ^ k) (width_side M.floor d i) l) (omega arith)
+        (capped s (side_below d i M.floor.stations h)).each X (subst⁻¹ (λ k. X < 2 ^ k) (width_side M.floor d i) l)
         ∙ ap (λ v. M.cap v (station_of s) X) (end_of_side d i)
         ∙ ap (λ v. M.cap d v X) (station_of_side d i);
   }
     where
-      poles : (d : Bool) → (table_meaning n a b lanes rows).floor.pole d ≡ M.floor.pole d
+      poles : (d : Bool) → (table_meaning n a b lanes rows caps).floor.pole d ≡ M.floor.pole d
       poles true = despatch
       poles false = stock
 
-      ends : (d : Bool) (e : ℕ) → e < M.floor.lanes → (table_meaning n a b lanes rows).floor.end d e ≡ M.floor.end d e
+      ends : (d : Bool) (e : ℕ) → e < M.floor.lanes → (table_meaning n a b lanes rows caps).floor.end d e ≡ M.floor.end d e
       ends true e h = ap (λ (r : TableLane). r.entering.station) (lane_is e h)
       ends false e h = ap (λ (r : TableLane). r.leaving.station) (lane_is e h)

@@ -6,4 +6,4 @@ use Rattle.tables.specs.declared.tables.Tables.{Tables}
 
 -- the floor and the caps of the tables
 abbrev pub meaning_in : Tables → Meaning
-meaning_in t = table_meaning t.stations t.stock t.despatch (vec_items t.lanes) (vec_items t.sides)
+meaning_in t = table_meaning t.stations t.stock t.despatch (vec_items t.lanes) (vec_items t.sides) (vec_items t.caps)

@@ -1,12 +1,12 @@
 // The rows of the tables, as a plant answers.
-ghost use Rattle.std.specs.Prelude.{◌≡◌, ◌*◌, ◌^◌, ◌<◌, ◌≤◌, IfOk};
+ghost use Rattle.std.specs.Prelude.{◌≡◌, ◌^◌, ◌<◌, ◌≤◌, ◌++◌, take, length, IfOk, OnOk};
 ghost use Rattle.floor.specs.Numbers.{most_on_side};
 ghost use Rattle.floor.specs.Floor.{sides as all_sides, width as side_width, end_of, station_of, lane_at};
 ghost use Rattle.tables.specs.Told.{lanes_on, caps_on, SideTold};
 
-use crate::tables::TableSide;
-use plant::Plant;
-use std::alloc::{AllocError, Global};
+use crate::tables::{TableSide, sets_of};
+use plant::{MOST_ON_SIDE, Plant};
+use std::alloc::AllocError;
 
 // A side of a plant, and how many lanes it has.
 #[derive(Drop)]
@@ -49,30 +49,39 @@ impl<'a, P: Plant> PlantSide<'a, P> {
         self.plant.cap(self.side, set).unwrap()
     }
 
-    // The lanes, by position.
-    fn lanes(&self, heap: Global) -> Result<Vec<usize>, AllocError>
-        ensures { IfOk result (λ v. v.items ≡ lanes_on (P.meaning self.now.plant.now).floor self.now.side) }
+    // The numbers of the lanes, by position. The places past the last lane stay 0, so the loop goes over the positions.
+    fn numbers(&self) -> [usize; MOST_ON_SIDE]
+        ensures { take self.now.width result ≡ lanes_on (P.meaning self.now.plant.now).floor self.now.side }
     {
-        (0..self.width)
-            .map(|position| self.lane_at(position))
-            .collect(heap)
+        let mut numbers = [0; MOST_ON_SIDE];
+        for position in 0..self.width {
+            numbers[position] = self.lane_at(position);
+        }
+        numbers
     }
 
-    // The caps of the sets, in the order of their codes.
-    fn caps(&self, heap: Global) -> Result<Vec<u32>, AllocError>
-        ensures { IfOk result (λ v. v.items ≡ caps_on (P.meaning self.now.plant.now) self.now.side) }
+    // Adds the caps of the sets, in the order of their codes.
+    fn add_caps(&self, caps: &mut Vec<u32>) -> Result<(), AllocError>
+        ensures { OnOk result (caps.new.items ≡ caps.old.items ++ caps_on (P.meaning self.now.plant.now) self.now.side) }
     {
-        let sets = 1 << self.width;
-        (0..sets).map(|set| self.cap(set)).collect(heap)
+        for set in 0..sets_of(self.width) {
+            caps.push(self.cap(set))?;
+        }
+        Ok(())
     }
 
-    // The row of the side.
-    pub(crate) fn table(&self, heap: Global) -> Result<TableSide, AllocError>
-        ensures { IfOk result (λ row. SideTold (P.meaning self.now.plant.now) self.now.side row) }
+    // The row of the side, whose caps are added to `caps`.
+    pub(crate) fn table(&self, caps: &mut Vec<u32>) -> Result<TableSide, AllocError>
+        ensures lanes { IfOk result (λ row. SideTold (P.meaning self.now.plant.now).floor self.now.side row) }
+        ensures start { IfOk result (λ row. row.start ≡ length caps.old.items) }
+        ensures caps { OnOk result (caps.new.items ≡ caps.old.items ++ caps_on (P.meaning self.now.plant.now) self.now.side) }
     {
+        let start = caps.len();
+        self.add_caps(caps)?;
         Ok(TableSide {
-            lanes: self.lanes(heap)?,
-            caps: self.caps(heap)?,
+            width: self.width,
+            numbers: self.numbers(),
+            start,
         })
     }
 }

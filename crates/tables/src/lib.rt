@@ -4,12 +4,12 @@
 #![tactic(auto)]
 
 ghost use Rattle.std.specs.Prelude.{◌≡◌, ℕ, ◌+◌, ◌*◌, ◌^◌, ◌<◌, ◌≤◌, length, slice_index, IfOk, Contains};
-ghost use Rattle.floor.specs.Numbers.{most_stations};
+ghost use Rattle.floor.specs.Numbers.{most_stations, most_on_side};
 ghost use Rattle.floor.specs.Floor.{leaving, entering, sides as all_sides, side as side_number};
 ghost use Rattle.tables.specs.Agreement.{Agrees};
-ghost use Rattle.tables.specs.Parts.{lanes_in};
+ghost use Rattle.tables.specs.Parts.{side_in, lanes_in};
 ghost use Rattle.tables.specs.Tables.{meaning_in};
-ghost use Rattle.tables.specs.Told.{SidesTold, lane_told, lanes_told};
+ghost use Rattle.tables.specs.Told.{SidesTold, SidesCapped, lane_told, lanes_told};
 
 use crate::asking::PlantSide;
 use crate::tables::side_at;
@@ -28,7 +28,8 @@ pub fn tabulate<P: Plant>(heap: Global, plant: &P) -> Result<Tables, AllocError>
     ensures { IfOk result (λ t. Agrees (P.meaning plant.now) (meaning_in t)) }
 {
     let stations = plant.stations();
-    let sides = table_sides(heap, plant, stations)?;
+    let mut caps = Vec::new(heap);
+    let sides = table_sides(heap, plant, stations, &mut caps)?;
     let lanes = table_lanes(heap, plant, sides.as_slice())?;
     Ok(Tables {
         stations,
@@ -36,21 +37,25 @@ pub fn tabulate<P: Plant>(heap: Global, plant: &P) -> Result<Tables, AllocError>
         despatch: plant.despatch(),
         lanes,
         sides,
+        caps,
     })
 }
 
-// The row of each side.
+// The row of each side. The caps of the sides are added to `caps`, one side after another.
 fn table_sides<P: Plant>(
     heap: Global,
     plant: &P,
     stations: usize,
+    caps: &mut Vec<u32>,
 ) -> Result<Vec<TableSide>, AllocError>
     requires { stations ≡ (P.meaning plant.now).floor.stations }
-    ensures { IfOk result (λ v. SidesTold (P.meaning plant.now) (all_sides (P.meaning plant.now).floor) v.items) }
+    ensures told { IfOk result (λ v. SidesTold (P.meaning plant.now).floor (all_sides (P.meaning plant.now).floor) v.items) }
+    ensures capped { IfOk result (λ v. SidesCapped (P.meaning plant.now) (all_sides (P.meaning plant.now).floor) v.items caps.new.items) }
 {
     let mut sides = Vec::new(heap);
     for side in 0..2 * stations {
-        sides.push(PlantSide::new(plant, side).table(heap)?)?;
+        let row = PlantSide::new(plant, side).table(caps)?;
+        sides.push(row)?;
     }
     Ok(sides)
 }
@@ -61,7 +66,7 @@ fn table_lanes<P: Plant>(
     plant: &P,
     sides: &[TableSide],
 ) -> Result<Vec<TableLane>, AllocError>
-    requires { SidesTold (P.meaning plant.now) (all_sides (P.meaning plant.now).floor) sides.now }
+    requires { SidesTold (P.meaning plant.now).floor (all_sides (P.meaning plant.now).floor) sides.now }
     ensures { IfOk result (λ v. v.items ≡ lanes_told (P.meaning plant.now).floor (P.meaning plant.now).floor.lanes) }
 {
     (0..plant.lanes())
@@ -72,7 +77,7 @@ fn table_lanes<P: Plant>(
 // The row of a lane.
 fn table_lane<P: Plant>(plant: &P, sides: &[TableSide], lane: usize) -> TableLane
     requires on_floor { lane < (P.meaning plant.now).floor.lanes }
-    requires told { SidesTold (P.meaning plant.now) (all_sides (P.meaning plant.now).floor) sides.now }
+    requires told { SidesTold (P.meaning plant.now).floor (all_sides (P.meaning plant.now).floor) sides.now }
     ensures { result ≡ lane_told (P.meaning plant.now).floor lane }
 {
     let (from, to) = lane_ends(plant, lane);
@@ -97,15 +102,16 @@ fn lane_ends<P: Plant>(plant: &P, lane: usize) -> (usize, usize)
 fn lane_end(sides: &[TableSide], lane: usize, station: usize, entering: bool) -> LaneEnd
     requires few { station < most_stations }
     requires on { side_number entering station < length sides.now }
+    requires narrow { (side_in sides.now (side_number entering station)).width ≤ most_on_side }
     requires there { Contains (lanes_in sides.now (side_number entering station)) lane }
     ensures station { result.station ≡ station }
     ensures within { result.position < length (lanes_in sides.now (side_number entering station)) }
     ensures found { slice_index (lanes_in sides.now (side_number entering station)) result.position ≡ lane }
 {
-    let lanes = sides[side_at(station, entering)].lanes.as_slice();
+    let row = &sides[side_at(station, entering)];
     LaneEnd {
         station,
-        position: position_in(lanes, lane),
+        position: position_in(row.lanes(), lane),
     }
 }
 

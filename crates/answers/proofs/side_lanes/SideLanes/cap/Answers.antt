@@ -1,5 +1,4 @@
-use Rattle.std.proofs.Common.{length, get_or, None, Some, sym, ap, ◌∙◌}
-use Rattle.polymatroid.specs.Kinds.{plain}
+use Rattle.std.proofs.Common.{length, get_or, Some, sym, ap, ◌∙◌}
 use Rattle.plantformat.specs.Records.{cap_by}
 use Rattle.plantformat.specs.Rules.{limit_keeps}
 use Rattle.limits.specs.Told.{told}
@@ -10,7 +9,7 @@ use Rattle.answers.proofs.side_lanes.SideLanes.cap.Goals as goal
 pub cap_of-requires-clause-keeps : goal.cap_of-requires-clause-keeps
 cap_of-requires-clause-keeps c =
     let on = c.args.self.now in
-    let long = ap length c.deref.ensures.0 ∙ c.own_caps-own.ensures.owns.long in
+    let long = ap length c.deref.ensures.0 ∙ c.own_caps.ensures.owns.long in
     ap (λ k. limit_keeps k (told c.in-Some.limit)) long ∙ found_keeps on.plant.now on.side (told c.in-Some.limit) (sym c.in-Some.ensures)
 
 pub returns-in-Some : goal.returns-in-Some
@@ -19,13 +18,10 @@ returns-in-Some c =
     let limit = Some (told c.in-Some.limit) in
     c.cap_of.ensures
     ∙ ap (λ xs. cap_by (length xs) (λ p. get_or xs p 0) limit c.args.set) c.deref.ensures.0
-    ∙ owned_cap on.plant.now on.side c.own_caps-own.result.items c.own_caps-own.ensures.owns limit c.args.set
+    ∙ owned_cap on.plant.now on.side c.own_caps.result.items c.own_caps.ensures.owns limit c.args.set
     ∙ ap (λ l. limit_cap on.plant.now on.side l c.args.set) c.in-Some.ensures
 
 pub returns-in-None : goal.returns-in-None
 returns-in-None c =
     let on = c.args.self.now in
-    c.plain_cap.ensures
-    ∙ ap (λ xs. plain (λ p. get_or xs p 0) (length xs) c.args.set) c.deref-in-None.ensures.0
-    ∙ owned_cap on.plant.now on.side c.own_caps-own.result.items c.own_caps-own.ensures.owns None c.args.set
-    ∙ ap (λ l. limit_cap on.plant.now on.side l c.args.set) c.in-None.ensures
+    c.plain_cap.ensures ∙ ap (λ l. limit_cap on.plant.now on.side l c.args.set) c.in-None.ensures
